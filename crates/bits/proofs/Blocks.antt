@@ -1,0 +1,3 @@
+-- Blocks of a list, one after the other.
+-- Assumes nothing.
+use mathlib.Core.Path.{_≡_, refl}

@@ -1,0 +1,6 @@
+pub mod Choice
+pub mod Lists
+pub mod Table
+pub mod Xor
+pub mod Words
+pub mod Blocks

@@ -1,0 +1,57 @@
+-- Words and their bytes, over the width: n is the number of bytes.
+-- Assumes nothing.
+use mathlib.Core.Path.{_≡_, refl, sym, ap, ap₂, _∙_}
+use mathlib.Core.List.{List, [], _∷_, _++_, append-assoc}
+use Prim.Native.Nat.{ℕ, zero, suc, _+_, _*_, _/_, _%_, _^_, _≤_, _<_}
+use native.Mathlib.Nat.{mod-lt, zero-lt-suc, mul-suc}
+use native.Mathlib.Omega.{arith}
+use lib.Arith.{digits-div, digits-mod}
+use lib.Bits.{bitXor, xor-shr, xor-mod}
+use lib.Dec.{lit<}
+use lib.ListN.{length, getD, take, List·getD-append}
+use lib.Seq.{getD-append-add}
+use Rattle.bits.specs.Bytes.{Bytes, xorBytes}
+use Rattle.bits.specs.Words.{leBytes, leValue, leWords}
+use Rattle.bits.proofs.Lists.{cons}
+
+pub le-length : (n x : ℕ) → length (leBytes n x) ≡ n
+le-length zero x = refl
+le-length (suc n) x = ap suc (le-length n (x / 256))
+
+pub le-bytes : (n x : ℕ) → Bytes (leBytes n x)
+le-bytes zero x = tt
+le-bytes (suc n) x = (mod-lt x (lit< tt), le-bytes n (x / 256))
+
+-- exclusive or of words is that of their bytes
+pub le-xor : (n x y : ℕ) → leBytes n (bitXor x y) ≡ xorBytes (leBytes n x) (leBytes n y)
+le-xor zero x y = refl
+le-xor (suc n) x y = cons (xor-mod x y 8) (ap (leBytes n) (xor-shr x y 8) ∙ le-xor n (x / 256) (y / 256))
+
+-- bytes, their number, and bytes again
+pub le-of-value : (l : List ℕ) → Bytes l → leBytes (length l) (leValue l) ≡ l
+le-of-value [] h = refl
+le-of-value (b ∷ l) h =
+    let v = leValue l in
+    let e : b + 256 * v ≡ v * 256 + b = omega arith in
+    cons (ap (λ (x : ℕ). x % 256) e ∙ digits-mod v (h .0))
+    (ap (λ (x : ℕ). leBytes (length l) (x / 256)) e ∙ ap (leBytes (length l)) (digits-div v (h .0)) ∙ le-of-value l (h .1))
+
+le-zero : (n j : ℕ) → getD (leBytes n 0) j 0 ≡ 0
+le-zero zero j = refl
+le-zero (suc n) zero = refl
+le-zero (suc n) (suc j) = le-zero n j
+
+-- byte j of word i, also past the end
+pub getD-words : (n : ℕ) (l : List ℕ) (i j : ℕ) → j < n → getD (leWords n l) (n * i + j) 0 ≡ getD (leBytes n (getD l i 0)) j 0
+getD-words n [] i j h = sym (le-zero n j)
+getD-words n (x ∷ l) zero j h =
+    let e : n * 0 + j ≡ j = omega arith in
+    let k : j < length (leBytes n x) = rw le-length h in
+    ap (λ (m : ℕ). getD (leBytes n x ++ leWords n l) m 0) e ∙ List·getD-append (leBytes n x) (leWords n l) 0 j k
+getD-words n (x ∷ l) (suc i) j h =
+    let e : n * suc i + j ≡ length (leBytes n x) + (n * i + j) = rw (le-length, mul-suc) (omega arith) in
+    ap (λ (m : ℕ). getD (leBytes n x ++ leWords n l) m 0) e ∙ getD-append-add (leBytes n x) (leWords n l) (n * i + j) 0 ∙ getD-words n l i j h
+
+pub words-append : (n : ℕ) (l m : List ℕ) → leWords n (l ++ m) ≡ leWords n l ++ leWords n m
+words-append n [] m = refl
+words-append n (x ∷ l) m = ap (λ (w : List ℕ). leBytes n x ++ w) (words-append n l m) ∙ sym (append-assoc (leBytes n x) (leWords n l) (leWords n m))
