@@ -6,13 +6,13 @@ use Prim.Native.Nat.{ℕ, zero, suc, _+_, _*_, _/_, _%_, _^_, _≤_, _<_}
 use native.Mathlib.Nat.{mod-lt, zero-lt-suc, mul-suc}
 use native.Mathlib.Omega.{arith}
 use lib.Arith.{digits-div, digits-mod}
-use lib.Bits.{bitXor, xor-shr, xor-mod}
+use lib.Bits.{bitXor, bitAnd, xor-shr, xor-mod, and-shr, and-mod}
 use lib.Dec.{lit<}
 use lib.ListN.{length, getD, take, List·getD-append}
-use lib.Seq.{getD-append-add}
-use Rattle.bits.specs.Bytes.{Bytes, xorBytes}
+use lib.Seq.{getD-append-add, take-nil, take-append-add}
+use Rattle.bits.specs.Bytes.{Bytes, zipBytes, xorBytes}
 use Rattle.bits.specs.Words.{leBytes, leValue, leWords}
-use Rattle.bits.proofs.Lists.{cons}
+use Rattle.bits.proofs.Lists.{cons, bytes-append}
 
 pub le-length : (n x : ℕ) → length (leBytes n x) ≡ n
 le-length zero x = refl
@@ -22,10 +22,17 @@ pub le-bytes : (n x : ℕ) → Bytes (leBytes n x)
 le-bytes zero x = tt
 le-bytes (suc n) x = (mod-lt x (lit< tt), le-bytes n (x / 256))
 
--- exclusive or of words is that of their bytes
+-- an operation that works on bits alone works byte by byte
+module _ (f : ℕ → ℕ → ℕ) (low : (x y : ℕ) → f x y % 256 ≡ f (x % 256) (y % 256)) (high : (x y : ℕ) → f x y / 256 ≡ f (x / 256) (y / 256)) where
+  le-zip : (n x y : ℕ) → leBytes n (f x y) ≡ zipBytes f (leBytes n x) (leBytes n y)
+  le-zip zero x y = refl
+  le-zip (suc n) x y = cons (low x y) (ap (leBytes n) (high x y) ∙ le-zip n (x / 256) (y / 256))
+
 pub le-xor : (n x y : ℕ) → leBytes n (bitXor x y) ≡ xorBytes (leBytes n x) (leBytes n y)
-le-xor zero x y = refl
-le-xor (suc n) x y = cons (xor-mod x y 8) (ap (leBytes n) (xor-shr x y 8) ∙ le-xor n (x / 256) (y / 256))
+le-xor = le-zip bitXor (λ x y. xor-mod x y 8) (λ x y. xor-shr x y 8)
+
+pub le-and : (n x y : ℕ) → leBytes n (bitAnd x y) ≡ zipBytes bitAnd (leBytes n x) (leBytes n y)
+le-and = le-zip bitAnd (λ x y. and-mod x y 8) (λ x y. and-shr x y 8)
 
 -- bytes, their number, and bytes again
 pub le-of-value : (l : List ℕ) → Bytes l → leBytes (length l) (leValue l) ≡ l
@@ -55,3 +62,18 @@ getD-words n (x ∷ l) (suc i) j h =
 pub words-append : (n : ℕ) (l m : List ℕ) → leWords n (l ++ m) ≡ leWords n l ++ leWords n m
 words-append n [] m = refl
 words-append n (x ∷ l) m = ap (λ (w : List ℕ). leBytes n x ++ w) (words-append n l m) ∙ sym (append-assoc (leBytes n x) (leWords n l) (leWords n m))
+
+pub words-take : (n i : ℕ) (l : List ℕ) → leWords n (take i l) ≡ take (n * i) (leWords n l)
+words-take n zero l =
+    let e : 0 ≡ n * 0 = omega arith in
+    ap (λ (m : ℕ). take m (leWords n l)) e
+words-take n (suc i) [] = sym (take-nil (n * suc i))
+words-take n (suc i) (x ∷ l) =
+    let e : length (leBytes n x) + n * i ≡ n * suc i = rw (le-length, mul-suc) (omega arith) in
+    ap (λ (w : List ℕ). leBytes n x ++ w) (words-take n i l)
+    ∙ sym (take-append-add (leBytes n x) (leWords n l) (n * i))
+    ∙ ap (λ (m : ℕ). take m (leBytes n x ++ leWords n l)) e
+
+pub words-bytes : (n : ℕ) (l : List ℕ) → Bytes (leWords n l)
+words-bytes n [] = tt
+words-bytes n (x ∷ l) = bytes-append (leBytes n x) (leWords n l) (le-bytes n x) (words-bytes n l)

@@ -9,8 +9,11 @@ abbrev pub Bytes : List ℕ → Type 0
 Bytes [] = Unit {0}
 Bytes (b ∷ l) = (b < 256) × Bytes l
 
--- two lists added bit by bit, as far as the shorter goes
+-- two lists, element by element, as far as the shorter goes
+abbrev pub zipBytes : (ℕ → ℕ → ℕ) → List ℕ → List ℕ → List ℕ
+zipBytes f [] m = []
+zipBytes f (a ∷ l) [] = []
+zipBytes f (a ∷ l) (b ∷ m) = f a b ∷ zipBytes f l m
+
 abbrev pub xorBytes : List ℕ → List ℕ → List ℕ
-xorBytes [] m = []
-xorBytes (a ∷ l) [] = []
-xorBytes (a ∷ l) (b ∷ m) = bitXor a b ∷ xorBytes l m
+xorBytes l m = zipBytes bitXor l m

@@ -1,0 +1,4 @@
+pub mod Words
+pub mod Staggered
+pub mod Schedule
+pub mod Rounds

@@ -1,0 +1,40 @@
+-- The key schedule as an array of words.
+-- Assumes nothing.
+use mathlib.Core.Path.{_≡_, sym, ap, _∙_}
+use mathlib.Core.List.{List}
+use Prim.Native.Nat.{ℕ, _+_, _*_, _≤_}
+use native.Mathlib.Omega.{arith}
+use lib.Dec.{lit<, lit≤}
+use lib.ListN.{getD}
+use Rattle.bits.specs.Words.{leBytes, leWords}
+use Rattle.bits.proofs.Lists.{list4}
+use Rattle.bits.proofs.Words.{getD-words, words-take}
+use Rattle.fips197.specs.KeyExpansion.{wordAt}
+use Rattle.fips197.specs.Cipher.{cipher}
+use Rattle.fips197.specs.InvCipher.{invCipher}
+use Rattle.fips197.proofs.Schedule.{cipher-take, inv-cipher-take}
+use Rattle.aes.specs.Form.{nk, nr, schedule}
+use Rattle.aes.specs.declared.KeySize.{KeySize}
+use Rattle.aes.specs.declared.KeySize.the-variants.{Aes128, Aes256}
+
+-- w[i], also past the end
+pub word-words : (w : List ℕ) (i : ℕ) → wordAt (leWords 4 w) i ≡ leBytes 4 (getD w i 0)
+unfolding wordAt
+word-words w i = list4 (getD-words 4 w i 0 (lit< tt)) (getD-words 4 w i 1 (lit< tt)) (getD-words 4 w i 2 (lit< tt)) (getD-words 4 w i 3 (lit< tt))
+
+-- ten rounds or fourteen
+pub rounds-few : (size : KeySize) → (1 ≤ nr size) × (nr size ≤ 14)
+rounds-few Aes128 = (lit≤ tt, lit≤ tt)
+rounds-few Aes256 = (lit≤ tt, lit≤ tt)
+
+-- the cipher reads its schedule and not the words past it
+module _ (size : KeySize) (w b : List ℕ) where
+  pub cipher-schedule : cipher (leWords 4 w) (nr size) b ≡ cipher (schedule size w) (nr size) b
+  cipher-schedule =
+      sym (cipher-take (4 * (4 * (nk size + 7))) (leWords 4 w) (nr size) b (omega arith))
+      ∙ ap (λ (l : List ℕ). cipher l (nr size) b) (sym (words-take 4 (4 * (nk size + 7)) w))
+
+  pub inv-cipher-schedule : invCipher (leWords 4 w) (nr size) b ≡ invCipher (schedule size w) (nr size) b
+  inv-cipher-schedule =
+      sym (inv-cipher-take (4 * (4 * (nk size + 7))) (leWords 4 w) (nr size) b (omega arith))
+      ∙ ap (λ (l : List ℕ). invCipher l (nr size) b) (sym (words-take 4 (4 * (nk size + 7)) w))

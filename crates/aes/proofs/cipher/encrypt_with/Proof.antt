@@ -1,0 +1,34 @@
+use mathlib.Core.Path.{ap, _∙_}
+use Prim.Native.Nat.{ℕ}
+use native.Mathlib.Omega.{arith}
+use Rattle.bits.specs.Words.{leWords}
+use Rattle.fips197.specs.Cipher.{cipher}
+use Rattle.aes.specs.Form.{bytesOf}
+use Rattle.aes.proofs.Schedule.{rounds-few, cipher-schedule}
+use borrow.Author.Needs.{needs}
+use Rattle.aes.proofs.cipher.encrypt_with.Statement.{statement}
+use Rattle.aes.proofs.cipher.encrypt_with.Tie as tie
+use Rattle.aes.proofs.cipher.encrypt_with.Reads as reads
+use Rattle.aes.proofs.cipher.encrypt_with.Lts as lts
+use Rattle.aes.proofs.cipher.cipher_rounds.Reads as cipher-rounds-reads
+use Rattle.aes.proofs.cipher.rounds.Reads as rounds-reads
+
+rounds-requires : tie.Need-rounds-requires
+rounds-requires c κs = search needs
+
+cipher-rounds-requires : tie.Need-cipher-rounds-requires
+cipher-rounds-requires c κs =
+    let few = rounds-few (c .before .args .size) in
+    let e = c .rounds .ensures in
+    (c .before .pre, (omega arith, omega arith))
+
+returns : tie.Need-returns
+returns c =
+    let st = c .before .before in
+    let w = st .args .w .now in
+    c .cipher-rounds .ensures
+    ∙ ap (λ (n : ℕ). cipher (leWords 4 w) n (bytesOf (st .args .b))) (c .before .rounds .ensures)
+    ∙ cipher-schedule (st .args .size) w (bytesOf (st .args .b))
+
+pub encrypt-with-spec : {M : Type 1} → statement M
+encrypt-with-spec = tie.close (tie.spec rounds-requires cipher-rounds-requires returns)

@@ -1,0 +1,26 @@
+use mathlib.Core.Path.{ap, _∙_}
+use mathlib.Core.List.{List}
+use Prim.Native.Nat.{ℕ}
+use Rattle.fips197.specs.Cipher.{addRoundKey}
+use Rattle.fips197.specs.InvCipher.{invFinalRound}
+use Rattle.aes.specs.Form.{bytesOf}
+use borrow.Author.Needs.{needs}
+use Rattle.aes.proofs.inv_cipher.inv_final_round.Statement.{statement}
+use Rattle.aes.proofs.inv_cipher.inv_final_round.Tie as tie
+use Rattle.aes.proofs.inv_cipher.inv_final_round.Reads as reads
+use Rattle.aes.proofs.inv_cipher.inv_final_round.Lts as lts
+use Rattle.aes.proofs.cipher.add_round_key.Reads as add-round-key-reads
+use Rattle.aes.proofs.inv_cipher.inv_shift_sub.Reads as inv-shift-sub-reads
+
+inv-shift-sub-requires : tie.Need-inv-shift-sub-requires
+inv-shift-sub-requires c κs = search needs
+
+add-round-key-requires : tie.Need-add-round-key-requires
+add-round-key-requires c κs = search needs
+
+returns : tie.Need-returns
+unfolding invFinalRound
+returns c = c .add-round-key .ensures ∙ ap (λ (s : List ℕ). addRoundKey s (bytesOf (c .before .before .args .k))) (c .before .inv-shift-sub .ensures)
+
+pub inv-final-round-spec : {M : Type 1} → statement M
+inv-final-round-spec = tie.close (tie.spec inv-shift-sub-requires add-round-key-requires returns)

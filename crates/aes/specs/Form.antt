@@ -1,0 +1,30 @@
+-- What the structs of this crate stand for.
+-- Assumes nothing.
+use mathlib.Core.List.{List, _++_}
+use Prim.Native.Nat.{ℕ, _+_, _*_}
+use lib.ListN.{take}
+use Rattle.bits.specs.Words.{leBytes, leWords}
+use Rattle.aes.specs.declared.Block.{Block}
+use Rattle.aes.specs.declared.Key.{Key}
+use Rattle.aes.specs.declared.KeySize.{KeySize}
+use Rattle.aes.specs.declared.KeySize.the-variants.{Aes128, Aes256}
+
+-- FIPS 197 section 3.4: the 16 bytes of a block, column by column
+abbrev pub bytesOf : Block → List ℕ
+bytesOf s = leBytes 4 (s .a) ++ leBytes 4 (s .b) ++ leBytes 4 (s .c) ++ leBytes 4 (s .d)
+
+-- FIPS 197 section 5, figure 4: the words of a key, and the rounds
+abbrev pub nk : KeySize → ℕ
+nk Aes128 = 4
+nk Aes256 = 8
+
+abbrev pub nr : KeySize → ℕ
+nr size = nk size + 6
+
+-- the 16 or 32 bytes of a key
+abbrev pub keyBytes : KeySize → Key → List ℕ
+keyBytes size k = take (4 * nk size) (bytesOf (k .low) ++ bytesOf (k .high))
+
+-- the key schedule in an array of words: 4 (nr + 1) of them, and the rest unused
+abbrev pub schedule : KeySize → List ℕ → List ℕ
+schedule size w = leWords 4 (take (4 * (nk size + 7)) w)

@@ -1,0 +1,62 @@
+// MixColumns and its inverse on whole columns, without a table.
+ghost use mathlib.Core.Path.{_≡_};
+ghost use Prim.Native.Nat.{ℕ};
+ghost use Rattle.bits.specs.Words.{leBytes};
+ghost use Rattle.fips197.specs.Cipher.{mixRow, mixColumns};
+ghost use Rattle.fips197.specs.InvCipher.{invMixRow, invMixColumns};
+ghost use Rattle.aes.specs.Columns.{scaled, staggered, mixed};
+ghost use Rattle.aes.specs.Form.{bytesOf};
+use crate::Block;
+use crate::word::rot_word;
+
+// Every byte of a column times x.
+fn xtime(x: u32) -> u32
+    ensures { λ r. ⌜ leBytes 4 r ≡ scaled 2 (leBytes 4 x) ⌝ }
+{
+    ((x & 0x7f7f7f7f) << 1) ^ (((x & 0x80808080) >> 7) * 27)
+}
+
+// The rows of the matrix are one row, turned: so are the terms of the sum.
+fn stagger(a: u32, b: u32, c: u32, d: u32) -> u32
+    ensures { λ r. ⌜ leBytes 4 r ≡ staggered (leBytes 4 a) (leBytes 4 b) (leBytes 4 c) (leBytes 4 d) ⌝ }
+{
+    a ^ rot_word(b) ^ rot_word(rot_word(c)) ^ rot_word(rot_word(rot_word(d)))
+}
+
+pub fn mix_column(x: u32) -> u32
+    ensures { λ r. ⌜ leBytes 4 r ≡ mixed mixRow (leBytes 4 x) ⌝ }
+{
+    let x2 = xtime(x);
+    stagger(x2, x2 ^ x, x, x)
+}
+
+pub fn inv_mix_column(x: u32) -> u32
+    ensures { λ r. ⌜ leBytes 4 r ≡ mixed invMixRow (leBytes 4 x) ⌝ }
+{
+    let x2 = xtime(x);
+    let x4 = xtime(x2);
+    let x8 = xtime(x4);
+    stagger(x8 ^ x4 ^ x2, x8 ^ x2 ^ x, x8 ^ x4 ^ x, x8 ^ x)
+}
+
+pub fn mix_columns(s: Block) -> Block
+    ensures { λ r. ⌜ bytesOf r ≡ mixColumns (bytesOf s) ⌝ }
+{
+    Block {
+        a: mix_column(s.a),
+        b: mix_column(s.b),
+        c: mix_column(s.c),
+        d: mix_column(s.d),
+    }
+}
+
+pub fn inv_mix_columns(s: Block) -> Block
+    ensures { λ r. ⌜ bytesOf r ≡ invMixColumns (bytesOf s) ⌝ }
+{
+    Block {
+        a: inv_mix_column(s.a),
+        b: inv_mix_column(s.b),
+        c: inv_mix_column(s.c),
+        d: inv_mix_column(s.d),
+    }
+}

@@ -1,0 +1,36 @@
+use Rattle.fips197.specs.Sbox.{sbox}
+use borrow.Author.Needs.{needs}
+use Rattle.aes_blocks.proofs.encrypt_blocks.Statement.{statement}
+use Rattle.aes_blocks.proofs.encrypt_blocks.Tie as tie
+use Rattle.aes_blocks.proofs.encrypt_blocks.Reads as reads
+use Rattle.aes_blocks.proofs.encrypt_blocks.Lts as lts
+use Rattle.aes_blocks.proofs.encrypt_blocks_with.Reads as encrypt-blocks-with-reads
+use Rattle.aes_blocks.proofs.tables.mix_tables.Reads as mix-tables-reads
+use Rattle.sbox.proofs.sbox_table.Reads as sbox-table-reads
+
+sbox-table-requires : tie.Need-sbox-table-requires
+sbox-table-requires c κs = search needs
+
+mix-tables-requires : tie.Need-mix-tables-requires
+mix-tables-requires c κs = search needs
+
+encrypt-blocks-with-requires : tie.Need-encrypt-blocks-with-requires
+encrypt-blocks-with-requires c κs =
+    let rule = c .before .before .before .before .before .sbox-table .ensures in
+    (c .before .before .before .mix-tables .ensures sbox rule, rule)
+
+same-length : tie.Need-same-length
+same-length c = search needs
+
+returns : tie.Need-returns
+returns c = search needs
+
+pub encrypt-blocks-spec : {M : Type 1} → statement M
+encrypt-blocks-spec =
+    tie.close
+    (tie.spec
+    sbox-table-requires
+    mix-tables-requires
+    encrypt-blocks-with-requires
+    same-length
+    returns)

@@ -1,0 +1,103 @@
+use mathlib.Core.Path.{_≡_, refl, ap, _∙_}
+use Prim.Native.Nat.{ℕ, _-_, _*_, _/_, _≤_}
+use native.Mathlib.Omega.{arith}
+use borrow.Author.Needs.{needs}
+use lib.ListN.{length}
+use lib.Seq.{length-sets}
+use Rattle.bits.specs.Blocks.{mapBlocks}
+use Rattle.bits.specs.Words.{leWords}
+use Rattle.bits.proofs.Blocks.{map-blocks-stored, map-blocks-ext}
+use Rattle.fips197.specs.Cipher.{cipher}
+use Rattle.fips197.proofs.Undo.{cipher-length}
+use Rattle.aes.specs.Form.{bytesOf, nr, schedule}
+use Rattle.aes.proofs.Schedule.{rounds-few, cipher-schedule}
+use Rattle.aes_blocks.proofs.encrypt_blocks_with.Statement.{statement}
+use Rattle.aes_blocks.proofs.encrypt_blocks_with.Tie as tie
+use Rattle.aes_blocks.proofs.encrypt_blocks_with.Reads as reads
+use Rattle.aes_blocks.proofs.encrypt_blocks_with.Lts as lts
+use Rattle.aes_blocks.proofs.table_cipher.Reads as table-cipher-reads
+use Rattle.aes.proofs.cipher.rounds.Reads as rounds-reads
+use Rattle.aes.proofs.word.block_at.Reads as block-at-reads
+use Rattle.aes.proofs.word.put_block.Reads as put-block-reads
+
+abbrev Inv-loop : tie.InvT-loop
+Inv-loop t u w bytes₀ n count i₀ bytes i =
+    (i ≤ count) × (length bytes ≡ length bytes₀) × (bytes ≡ mapBlocks (cipher (leWords 4 w) n) i bytes₀)
+
+abbrev μ-loop : tie.MeasureT-loop
+μ-loop t u w bytes₀ n count i₀ bytes i = count - i
+
+rounds-requires : tie.Need-rounds-requires Inv-loop μ-loop
+rounds-requires c κs = search needs
+
+loop-holds : tie.Need-loop-holds Inv-loop μ-loop
+loop-holds c = (search needs, refl, refl)
+
+mul-at : tie.Need-mul-at Inv-loop μ-loop
+mul-at c = search needs
+
+block-at-requires : tie.Need-block-at-requires Inv-loop μ-loop
+block-at-requires c κs = omega (arith, c .before .before .loop .inv .1)
+
+table-cipher-requires : tie.Need-table-cipher-requires Inv-loop μ-loop
+table-cipher-requires c κs =
+    let few = rounds-few (c .before .before .before .before .before .before .args .size) in
+    let e = c .before .before .before .before .rounds .ensures in
+    (c .before .before .before .before .before .before .pre .0, (c .before .before .before .before .before .before .pre .1, (omega arith, omega arith)))
+
+put-block-requires : tie.Need-put-block-requires Inv-loop μ-loop
+put-block-requires c κs = omega (arith, c .before .before .before .before .before .loop .inv .1)
+
+add-i : tie.Need-add-i Inv-loop μ-loop
+add-i c = search needs
+
+loop-less : tie.Need-loop-less Inv-loop μ-loop
+loop-less c = search needs
+
+loop-again : tie.Need-loop-again Inv-loop μ-loop
+loop-again c =
+    let at-loop = c .before .before .before .before .before .before .before .before in
+    let st = at-loop .before .before .before in
+    let n = at-loop .before .rounds .result in
+    let w = leWords 4 (st .args .w .now) in
+    let i = at-loop .loop .i in
+    let stored = c .before .before .put-block .ensures in (
+      omega arith,
+      ap length stored ∙ length-sets (at-loop .loop .bytes) (16 * i) (bytesOf (c .before .before .before .before .table-cipher .result)) ∙ at-loop .loop .inv .1,
+      map-blocks-stored (cipher w n) (cipher-length w n) i (st .args .bytes .now) (omega arith) (at-loop .loop .inv .2) (c .before .before .before .before .before .block-at .ensures)
+          (c .before .before .before .before .table-cipher .ensures) stored,
+    )
+
+same-length : tie.Need-same-length Inv-loop μ-loop
+same-length c = search needs
+
+returns : tie.Need-returns Inv-loop μ-loop
+returns c =
+    let at-loop = c .before in
+    let st = at-loop .before .before .before in
+    let size = st .args .size in
+    let w = st .args .w .now in
+    let s = st .args .bytes .now in
+    let e : at-loop .loop .i ≡ length s / 16 = omega arith in
+    at-loop .loop .inv .2
+    ∙ map-blocks-ext (cipher (leWords 4 w) (at-loop .before .rounds .result)) (cipher (schedule size w) (nr size))
+    (λ b. ap (λ (n : ℕ). cipher (leWords 4 w) n b) (at-loop .before .rounds .ensures) ∙ cipher-schedule size w b) (at-loop .loop .i) s
+    ∙ ap (λ (m : ℕ). mapBlocks (cipher (schedule size w) (nr size)) m s) e
+
+pub encrypt-blocks-with-spec : {M : Type 1} → statement M
+encrypt-blocks-with-spec =
+    tie.close
+    (tie.spec
+    Inv-loop
+    μ-loop
+    rounds-requires
+    loop-holds
+    mul-at
+    block-at-requires
+    table-cipher-requires
+    put-block-requires
+    add-i
+    loop-less
+    loop-again
+    same-length
+    returns)

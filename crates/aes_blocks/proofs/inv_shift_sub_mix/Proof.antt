@@ -1,0 +1,40 @@
+use Rattle.bits.proofs.Lists.{four}
+use Rattle.fips197.specs.Sbox.{invSbox}
+use Rattle.fips197.specs.Cipher.{mixBy}
+use Rattle.fips197.specs.InvCipher.{invShiftRows, invSubBytes, invMixRow, invMixColumns}
+use Rattle.aes.specs.Columns.{mixed}
+use borrow.Author.Needs.{needs}
+use Rattle.aes_blocks.proofs.inv_shift_sub_mix.Statement.{statement}
+use Rattle.aes_blocks.proofs.inv_shift_sub_mix.Tie as tie
+use Rattle.aes_blocks.proofs.inv_shift_sub_mix.Reads as reads
+use Rattle.aes_blocks.proofs.inv_shift_sub_mix.Lts as lts
+use Rattle.aes_blocks.proofs.tables.table_column.Reads as table-column-reads
+
+table-column-requires : tie.Need-table-column-requires
+table-column-requires c κs = search needs
+
+table-column-requires-2 : tie.Need-table-column-requires-2
+table-column-requires-2 c κs = search needs
+
+table-column-requires-3 : tie.Need-table-column-requires-3
+table-column-requires-3 c κs = search needs
+
+table-column-requires-4 : tie.Need-table-column-requires-4
+table-column-requires-4 c κs = search needs
+
+returns : tie.Need-returns
+unfolding mixed invMixColumns mixBy invShiftRows invSubBytes
+returns c =
+    let h = c .before .before .before .before .pre in
+    four (c .before .before .before .table-column .ensures invMixRow invSbox h) (c .before .before .table-column2 .ensures invMixRow invSbox h)
+    (c .before .table-column3 .ensures invMixRow invSbox h) (c .table-column4 .ensures invMixRow invSbox h)
+
+pub inv-shift-sub-mix-spec : {M : Type 1} → statement M
+inv-shift-sub-mix-spec =
+    tie.close
+    (tie.spec
+    table-column-requires
+    table-column-requires-2
+    table-column-requires-3
+    table-column-requires-4
+    returns)

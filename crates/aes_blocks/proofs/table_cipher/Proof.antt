@@ -1,0 +1,84 @@
+use mathlib.Core.Path.{_≡_, refl}
+use Prim.Native.Nat.{ℕ, _+_, _-_, _≤_}
+use native.Mathlib.Omega.{arith}
+use borrow.Author.Needs.{needs}
+use Rattle.bits.specs.Words.{leWords}
+use Rattle.fips197.specs.Cipher.{rounds}
+use Rattle.aes.specs.Form.{bytesOf}
+use Rattle.aes.proofs.Rounds.{rounds-more, cipher-ends}
+use Rattle.aes_blocks.proofs.table_cipher.Statement.{statement}
+use Rattle.aes_blocks.proofs.table_cipher.Tie as tie
+use Rattle.aes_blocks.proofs.table_cipher.Reads as reads
+use Rattle.aes_blocks.proofs.table_cipher.Lts as lts
+use Rattle.aes_blocks.proofs.table_round.Reads as table-round-reads
+use Rattle.aes.proofs.cipher.add_round_key.Reads as add-round-key-reads
+use Rattle.aes.proofs.cipher.final_round.Reads as final-round-reads
+use Rattle.aes.proofs.cipher.round_key.Reads as round-key-reads
+
+abbrev Inv-loop : tie.InvT-loop
+Inv-loop t u w n s₀ i₀ s i = (1 ≤ i) × (i ≤ n) × (bytesOf s ≡ rounds (leWords 4 w) (i - 1) (bytesOf s₀))
+
+abbrev μ-loop : tie.MeasureT-loop
+μ-loop t u w n s₀ i₀ s i = n - i
+
+round-key-requires : tie.Need-round-key-requires Inv-loop μ-loop
+round-key-requires c κs = search needs
+
+add-round-key-requires : tie.Need-add-round-key-requires Inv-loop μ-loop
+add-round-key-requires c κs = search needs
+
+loop-holds : tie.Need-loop-holds Inv-loop μ-loop
+unfolding rounds
+loop-holds c = (search needs, search needs, refl)
+
+round-key-requires-2 : tie.Need-round-key-requires-2 Inv-loop μ-loop
+round-key-requires-2 c κs = search needs
+
+table-round-requires : tie.Need-table-round-requires Inv-loop μ-loop
+table-round-requires c κs = search needs
+
+add-i : tie.Need-add-i Inv-loop μ-loop
+add-i c = search needs
+
+loop-less : tie.Need-loop-less Inv-loop μ-loop
+loop-less c = search needs
+
+loop-again : tie.Need-loop-again Inv-loop μ-loop
+loop-again c =
+    let at-loop = c .before .before .before in (
+      omega arith,
+      omega arith,
+      rounds-more (leWords 4 (at-loop .before .before .before .args .w .now)) (at-loop .loop .i) _ (at-loop .loop .inv .0) (at-loop .loop .inv .2) (c .before .round-key2 .ensures) (c .table-round .ensures),
+    )
+
+round-key-requires-3 : tie.Need-round-key-requires-3 Inv-loop μ-loop
+round-key-requires-3 c κs = search needs
+
+final-round-requires : tie.Need-final-round-requires Inv-loop μ-loop
+final-round-requires c κs = search needs
+
+returns : tie.Need-returns Inv-loop μ-loop
+returns c =
+    let at-loop = c .before .before .before in
+    let st = at-loop .before .before .before in
+    cipher-ends (leWords 4 (st .args .w .now)) (st .args .n) (at-loop .loop .i) (bytesOf (st .args .b)) (omega arith)
+    (at-loop .before .before .round-key .ensures) (at-loop .before .add-round-key .ensures) (at-loop .loop .inv .2) (c .before .round-key3 .ensures)
+    (c .final-round .ensures)
+
+pub table-cipher-spec : {M : Type 1} → statement M
+table-cipher-spec =
+    tie.close
+    (tie.spec
+    Inv-loop
+    μ-loop
+    round-key-requires
+    add-round-key-requires
+    loop-holds
+    round-key-requires-2
+    table-round-requires
+    add-i
+    loop-less
+    loop-again
+    round-key-requires-3
+    final-round-requires
+    returns)

@@ -1,0 +1,26 @@
+use mathlib.Core.Path.{ap, _∙_}
+use mathlib.Core.List.{List}
+use Prim.Native.Nat.{ℕ}
+use Rattle.fips197.specs.Cipher.{addRoundKey}
+use Rattle.fips197.specs.Cipher as fips
+use Rattle.aes.specs.Form.{bytesOf}
+use borrow.Author.Needs.{needs}
+use Rattle.aes_blocks.proofs.table_round.Statement.{statement}
+use Rattle.aes_blocks.proofs.table_round.Tie as tie
+use Rattle.aes_blocks.proofs.table_round.Reads as reads
+use Rattle.aes_blocks.proofs.table_round.Lts as lts
+use Rattle.aes_blocks.proofs.sub_shift_mix.Reads as sub-shift-mix-reads
+use Rattle.aes.proofs.cipher.add_round_key.Reads as add-round-key-reads
+
+sub-shift-mix-requires : tie.Need-sub-shift-mix-requires
+sub-shift-mix-requires c κs = search needs
+
+add-round-key-requires : tie.Need-add-round-key-requires
+add-round-key-requires c κs = search needs
+
+returns : tie.Need-returns
+unfolding fips.round
+returns c = c .add-round-key .ensures ∙ ap (λ (s : List ℕ). addRoundKey s (bytesOf (c .before .before .args .k))) (c .before .sub-shift-mix .ensures)
+
+pub table-round-spec : {M : Type 1} → statement M
+table-round-spec = tie.close (tie.spec sub-shift-mix-requires add-round-key-requires returns)

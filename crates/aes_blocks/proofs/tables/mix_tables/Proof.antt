@@ -1,0 +1,20 @@
+use Rattle.aes_blocks.specs.Tables.{firstRow}
+use borrow.Author.Needs.{needs}
+use Rattle.aes_blocks.proofs.tables.mix_tables.Statement.{statement}
+use Rattle.aes_blocks.proofs.tables.mix_tables.Tie as tie
+use Rattle.aes_blocks.proofs.tables.mix_tables.Reads as reads
+use Rattle.aes_blocks.proofs.tables.mix_tables.Lts as lts
+use Rattle.aes_blocks.proofs.tables.first_table.Reads as first-table-reads
+use Rattle.aes_blocks.proofs.tables.turn_tables.Reads as turn-tables-reads
+
+first-table-requires : tie.Need-first-table-requires
+first-table-requires c κs = search needs
+
+turn-tables-requires : tie.Need-turn-tables-requires
+turn-tables-requires c κs = search needs
+
+returns : tie.Need-returns
+returns c = λ f rule. c .turn-tables .ensures (firstRow (c .before .before .before .args .direction)) f (c .before .before .first-table .ensures f rule)
+
+pub mix-tables-spec : {M : Type 1} → statement M
+mix-tables-spec = tie.close (tie.spec first-table-requires turn-tables-requires returns)

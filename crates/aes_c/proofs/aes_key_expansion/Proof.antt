@@ -1,0 +1,35 @@
+use mathlib.Core.Path.{sym, ap, ap₂, _∙_}
+use mathlib.Core.List.{List}
+use Prim.Native.Nat.{ℕ, _*_}
+use lib.ListN.{take}
+use Rattle.fips197.specs.KeyExpansion.{keyExpansion}
+use Rattle.aes.specs.Form.{nk, schedule}
+use Rattle.aes.specs.declared.KeySize.{KeySize}
+use borrow.Author.Needs.{needs}
+use Rattle.aes_c.proofs.aes_key_expansion.Statement.{statement}
+use Rattle.aes_c.proofs.aes_key_expansion.Tie as tie
+use Rattle.aes_c.proofs.aes_key_expansion.Reads as reads
+use Rattle.aes_c.proofs.aes_key_expansion.Lts as lts
+use Rattle.aes.proofs.word.key_from_bytes.Reads as key-from-bytes-reads
+use Rattle.aes_c.proofs.key_size.Reads as key-size-reads
+use Rattle.aes_key.proofs.key_expansion.Reads as key-expansion-reads
+
+key-size-requires : tie.Need-key-size-requires
+key-size-requires c κs = search needs
+
+key-from-bytes-requires : tie.Need-key-from-bytes-requires
+key-from-bytes-requires c κs = search needs
+
+key-expansion-requires : tie.Need-key-expansion-requires
+key-expansion-requires c κs = search needs
+
+returns : tie.Need-returns
+returns c =
+    let r = c .key-expansion .result in
+    let size = c .before .before .key-size in
+    ap (λ (s : KeySize). schedule s r) (sym (size .ensures)) ∙ c .key-expansion .ensures
+    ∙ ap₂ (λ (s : KeySize) (k : List ℕ). keyExpansion (nk s) (take (4 * nk s) k)) (size .ensures) (c .before .key-from-bytes .ensures)
+
+pub aes-key-expansion-spec : {M : Type 1} → statement M
+aes-key-expansion-spec =
+    tie.close (tie.spec key-size-requires key-from-bytes-requires key-expansion-requires returns)

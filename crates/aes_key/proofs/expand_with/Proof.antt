@@ -1,0 +1,127 @@
+use mathlib.Core.Path.{_≡_, refl, sym, ap, ap₂, _∙_}
+use Prim.Native.Nat.{ℕ, _+_, _-_, _*_, _≤_, _<_}
+use native.Mathlib.Omega.{arith}
+use borrow.Author.Needs.{needs}
+use lib.ListN.{length, take, length-set}
+use mathlib.Core.List.{List, _++_}
+use Rattle.bits.specs.Words.{leWords}
+use Rattle.fips197.specs.KeyExpansion.{expanded, keyExpansion}
+use Rattle.aes.specs.Form.{bytesOf, nk}
+use Rattle.aes_key.proofs.Expansion.{expanded-none, expands, key-words-few, key-front}
+use Rattle.aes_key.proofs.expand_with.Statement.{statement}
+use Rattle.aes_key.proofs.expand_with.Tie as tie
+use Rattle.aes_key.proofs.expand_with.Reads as reads
+use Rattle.aes_key.proofs.expand_with.Lts as lts
+use Rattle.aes_key.proofs.key_front.Reads as key-front-reads
+use Rattle.aes_key.proofs.key_words.Reads as key-words-reads
+use Rattle.aes_key.proofs.next_word.Reads as next-word-reads
+
+abbrev Inv-loop : tie.InvT-loop
+Inv-loop t size w₀ i₀ n w i =
+    (nk size ≤ i) × (i ≤ n) × (length w ≡ 60) × (leWords 4 (take i w) ≡ expanded (nk size) (leWords 4 (take (nk size) w₀)) (i - nk size))
+
+abbrev μ-loop : tie.MeasureT-loop
+μ-loop t size w₀ i₀ n w i = n - i
+
+key-front-requires : tie.Need-key-front-requires Inv-loop μ-loop
+key-front-requires c κs = search needs
+
+key-words-requires : tie.Need-key-words-requires Inv-loop μ-loop
+key-words-requires c κs = search needs
+
+key-words-requires-2 : tie.Need-key-words-requires-2 Inv-loop μ-loop
+key-words-requires-2 c κs = search needs
+
+add-n : tie.Need-add-n Inv-loop μ-loop
+add-n c = omega (arith, key-words-few (c .before .before .before .args .size), c .key-words2 .ensures)
+
+mul-n : tie.Need-mul-n Inv-loop μ-loop
+mul-n c = omega (arith, key-words-few (c .before .before .before .args .size), c .key-words2 .ensures)
+
+loop-holds : tie.Need-loop-holds Inv-loop μ-loop
+loop-holds c =
+    let size = c .before .before .before .args .size in
+    let w = c .before .before .key-front .result in
+    let few = key-words-few size in
+    let e = c .before .key-words .ensures in
+    let f = c .key-words2 .ensures in (
+      omega arith,
+      omega arith,
+      search needs,
+      ap (λ (n : ℕ). leWords 4 (take n w)) e ∙ expanded-none (nk size) (leWords 4 (take (nk size) w)) ∙ ap (λ (n : ℕ). expanded (nk size) (leWords 4 (take (nk size) w)) (n - nk size)) (sym e),
+    )
+
+next-word-requires : tie.Need-next-word-requires Inv-loop μ-loop
+next-word-requires c κs =
+    let few = key-words-few (c .before .before .before .before .before .before .args .size) in
+    let e = c .before .before .before .key-words2 .ensures in
+    (c .before .before .before .before .before .before .pre, (c .before .before .loop .inv .0, omega arith, omega arith))
+
+mul-w : tie.Need-mul-w Inv-loop μ-loop
+mul-w c =
+    let few = key-words-few (c .before .before .before .before .before .before .before .args .size) in
+    let e = c .before .before .before .before .key-words2 .ensures in
+    omega arith
+
+array-write-w : tie.Need-array-write-w Inv-loop μ-loop
+array-write-w c =
+    let few = key-words-few (c .before .before .before .before .before .before .before .args .size) in
+    let e = c .before .before .before .before .key-words2 .ensures in
+    omega arith
+
+add-i : tie.Need-add-i Inv-loop μ-loop
+add-i c =
+    let few = key-words-few (c .before .before .before .before .before .before .before .args .size) in
+    let e = c .before .before .before .before .key-words2 .ensures in
+    omega arith
+
+loop-less : tie.Need-loop-less Inv-loop μ-loop
+loop-less c = search needs
+
+loop-again : tie.Need-loop-again Inv-loop μ-loop
+loop-again c =
+    let few = key-words-few (c .before .before .before .before .before .before .before .args .size) in
+    let e = c .before .before .before .before .key-words2 .ensures in
+    let at-loop = c .before .before .before in
+    let size = c .before .before .before .before .before .before .before .args .size in
+    let l = at-loop .loop .inv .2 in (
+      omega arith,
+      omega arith,
+      length-set (at-loop .loop .w) (at-loop .loop .i) (c .next-word .result) ∙ l,
+      expands (nk size) (at-loop .loop .i) (leWords 4 (take (nk size) (c .before .before .before .before .before .before .key-front .result))) (at-loop .loop .w) (c .next-word .result)
+          (omega arith) (at-loop .loop .inv .0) (omega arith) (at-loop .loop .inv .3) (c .next-word .ensures),
+    )
+
+returns : tie.Need-returns Inv-loop μ-loop
+unfolding keyExpansion
+returns c =
+    let st = c .before .before .before .before .before in
+    let size = st .args .size in
+    let few = key-words-few size in
+    let f = c .before .before .key-words2 .ensures in
+    let at-loop = c .before in
+    let e : 4 * (nk size + 7) ≡ at-loop .loop .i = omega arith in
+    ap (λ (n : ℕ). leWords 4 (take n (at-loop .loop .w))) e
+    ∙ at-loop .loop .inv .3
+    ∙ ap₂ (λ (k : List ℕ) (n : ℕ). expanded (nk size) k (n - nk size))
+    (key-front (nk size) (c .before .before .before .before .key-front .result) (bytesOf (st .args .key .low) ++ bytesOf (st .args .key .high)) (few .1) (c .before .before .before .before .key-front .ensures)) (sym e)
+
+pub expand-with-spec : {M : Type 1} → statement M
+expand-with-spec =
+    tie.close
+    (tie.spec
+    Inv-loop
+    μ-loop
+    key-front-requires
+    key-words-requires
+    key-words-requires-2
+    add-n
+    mul-n
+    loop-holds
+    next-word-requires
+    mul-w
+    array-write-w
+    add-i
+    loop-less
+    loop-again
+    returns)

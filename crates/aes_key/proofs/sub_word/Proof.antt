@@ -1,0 +1,18 @@
+use Rattle.fips197.specs.Sbox.{sbox}
+use Rattle.fips197.specs.KeyExpansion.{subWord}
+use borrow.Author.Needs.{needs}
+use Rattle.aes_key.proofs.sub_word.Statement.{statement}
+use Rattle.aes_key.proofs.sub_word.Tie as tie
+use Rattle.aes_key.proofs.sub_word.Reads as reads
+use Rattle.aes_key.proofs.sub_word.Lts as lts
+use Rattle.aes.proofs.word.sub_diagonal.Reads as sub-diagonal-reads
+
+sub-diagonal-requires : tie.Need-sub-diagonal-requires
+sub-diagonal-requires c κs = search needs
+
+returns : tie.Need-returns
+unfolding subWord
+returns c = c .sub-diagonal .ensures sbox (c .before .pre)
+
+pub sub-word-spec : {M : Type 1} → statement M
+sub-word-spec = tie.close (tie.spec sub-diagonal-requires returns)

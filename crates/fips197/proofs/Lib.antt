@@ -1,0 +1,10 @@
+pub mod Field
+pub mod Sbox
+pub mod State
+pub mod Sum
+pub mod Mix
+pub mod Steps
+pub mod Equivalent
+pub mod Schedule
+pub mod Undo
+pub mod Examples

@@ -1,0 +1,95 @@
+#!/usr/bin/env python3
+"""Makes crates/vectors/stdout, what the program vectors has to write, from the files of test vectors.
+
+  fips197_stdout.py          write crates/vectors/stdout
+  fips197_stdout.py --check  exit with 1 where crates/vectors/stdout is something else
+
+A line of a vector file has a kind, a name and fields of hexadecimal digits; '#' begins a comment.
+"""
+
+import re
+import sys
+from pathlib import Path
+
+ROOT = Path(__file__).resolve().parent.parent
+VECTORS = ["tests/vectors/fips197.txt"]
+STDOUT = "crates/vectors/stdout"
+
+
+class BadLine(Exception):
+    pass
+
+
+def require_bytes(field, *sizes):
+    if len(field) not in [2 * size for size in sizes]:
+        raise BadLine(f"{field} is not {' or '.join(map(str, sizes))} bytes")
+
+
+# One function for each kind of line: of its fields it makes the lines that the program has to write.
+
+
+def expand(name, key, *words):
+    require_bytes(key, 16, 32)
+    for word in words:
+        require_bytes(word, 4)
+    count = {16: 44, 32: 60}[len(key) // 2]
+    if len(words) != count or not "".join(words).startswith(key):
+        raise BadLine(f"a schedule of this key has {count} words, the key first")
+    return [" ".join(["expand", name, *words])]
+
+
+def cipher(name, key, plaintext, ciphertext):
+    require_bytes(key, 16, 32)
+    require_bytes(plaintext, 16)
+    require_bytes(ciphertext, 16)
+    return [f"encrypt {name} {ciphertext}", f"decrypt {name} {plaintext}"]
+
+
+KINDS = {"expand": expand, "cipher": cipher}
+
+
+def lines_of(line):
+    """The lines that the program has to write for a line of a vector file."""
+    kind, *fields = line.split("#")[0].split() or [None]
+    if kind is None:
+        return []
+    if kind not in KINDS:
+        raise BadLine(f"no kind {kind}")
+    for field in fields[1:]:
+        if not re.fullmatch("[0-9a-f]*", field):
+            raise BadLine(f"{field} is not lowercase hexadecimal")
+    try:
+        return KINDS[kind](*fields)
+    except TypeError:
+        raise BadLine(f"a line of kind {kind} does not have {len(fields)} fields") from None
+
+
+def expected():
+    lines = []
+    for file in VECTORS:
+        for number, line in enumerate((ROOT / file).read_text().splitlines(), 1):
+            try:
+                lines += lines_of(line)
+            except BadLine as bad:
+                sys.exit(f"{file}:{number}: {bad}")
+    return "".join(line + "\n" for line in lines)
+
+
+def check(text):
+    path = ROOT / STDOUT
+    if not path.is_file():
+        sys.exit(f"there is no {STDOUT}; tests/fips197_stdout.py makes it")
+    if path.read_text() != text:
+        sys.exit(f"{STDOUT} is not what the vectors say; tests/fips197_stdout.py makes it anew")
+
+
+def main(args):
+    if args == ["--check"]:
+        check(expected())
+    elif not args:
+        (ROOT / STDOUT).write_text(expected())
+    else:
+        sys.exit(__doc__)
+
+
+main(sys.argv[1:])
