@@ -42,7 +42,12 @@ def cipher(name, key, plaintext, ciphertext):
     require_bytes(key, 16, 32)
     require_bytes(plaintext, 16)
     require_bytes(ciphertext, 16)
-    return [f"encrypt {name} {ciphertext}", f"decrypt {name} {plaintext}"]
+    return [
+        f"encrypt {name} {ciphertext}",
+        f"decrypt {name} {plaintext}",
+        f"encrypt8 {name} {8 * ciphertext}",
+        f"decrypt8 {name} {8 * plaintext}",
+    ]
 
 
 KINDS = {"expand": expand, "cipher": cipher}
