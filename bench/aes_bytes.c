@@ -168,22 +168,22 @@ void bytes_decrypt_blocks(uint8_t size, const uint32_t w[60], uint8_t *data, siz
 
 static inline struct column rot_word(struct column t) { return (struct column){t.b, t.c, t.d, t.a}; }
 
-// The words come in groups of as many as the key has. The first of a group goes through RotWord,
-// SubWord and Rcon, the fifth, which AES-128 does not have, through SubWord.
+// FIPS 197, figure 11, word for word. (Without its `mod`, in groups of nk words, gcc 12 makes this
+// nearly twice as fast; the T-table core's key expansion is written so.)
 void bytes_key_expansion(uint8_t size, const uint8_t key[32], uint32_t words[60])
 {
-    unsigned group = 4 * key_words_of(size), end = 16 * (rounds_of(size) + 1);
+    unsigned nk = key_words_of(size), end = 4 * (rounds_of(size) + 1);
     uint8_t *w = (uint8_t *)words, rcon = 1;
-    memcpy(w, key, group);
-    struct column t = load_column(w + group - 4);
-    for (unsigned i = group; i < end; i += group, rcon = xtime(rcon)) {
-        t = sub_column(sbox, rot_word(t));
-        t.a ^= rcon;
-        for (unsigned j = 0; j < group && i + j < end; j += 4) {
-            if (j == 16)
-                t = sub_column(sbox, t);
-            t = add_column(t, w + i + j - group);
-            store_column(w + i + j, t);
+    memcpy(w, key, 4 * nk);
+    for (unsigned i = nk; i < end; i++) {
+        struct column t = load_column(w + 4 * (i - 1));
+        if (i % nk == 0) {
+            t = sub_column(sbox, rot_word(t));
+            t.a ^= rcon;
+            rcon = xtime(rcon);
+        } else if (nk > 6 && i % nk == 4) {
+            t = sub_column(sbox, t);
         }
+        store_column(w + 4 * i, add_column(t, w + 4 * (i - nk)));
     }
 }

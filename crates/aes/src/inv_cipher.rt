@@ -12,7 +12,7 @@ use crate::cipher::round_key;
 use crate::cipher::rounds;
 use crate::mix::inv_mix_columns;
 use crate::word::sub_diagonal;
-use sbox::inverse_table;
+use sbox::inverse::inverse_table;
 
 // InvShiftRows, then InvSubBytes: each byte is looked up at the place from which it moves.
 pub fn inv_shift_sub(t: &[u8; 256], s: Block) -> Block

@@ -26,7 +26,7 @@ use aes::inv_cipher::inv_final_round;
 use aes::mix::inv_mix_column;
 use aes::word::block_at;
 use aes::word::put_block;
-use sbox::inverse_table;
+use sbox::inverse::inverse_table;
 use sbox::sbox_table;
 
 // SubBytes, ShiftRows and MixColumns at once.
