@@ -1,4 +1,5 @@
 pub mod Words
+pub mod Xtime
 pub mod Staggered
 pub mod Schedule
 pub mod Rounds

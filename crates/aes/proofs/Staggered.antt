@@ -1,13 +1,13 @@
 -- The staggered sum is the product with the matrix, whatever its row.
 -- Assumes nothing.
 use mathlib.Core.Path.{_≡_, refl, sym, ap, ap₂, _∙_}
-use mathlib.Core.List.{List, [], _∷_}
+use mathlib.Core.List.{List, [], _∷_, _++_, map, map-map, map-id}
 use Prim.Native.Nat.{ℕ}
 use lib.Bits.{bitXor, xor-comm}
-use lib.ListN.{getD}
+use lib.ListN.{getD, take, drop}
 use Rattle.bits.specs.Bytes.{xorBytes}
 use Rattle.bits.specs.Words.{leBytes}
-use Rattle.bits.proofs.Lists.{list4}
+use Rattle.bits.proofs.Lists.{cons, list4}
 use Rattle.bits.proofs.Words.{le-xor}
 use Rattle.bits.proofs.Xor.{xor-assoc}
 use Rattle.fips197.specs.Field.{multiply, multiplyBits}
@@ -15,26 +15,29 @@ use Rattle.fips197.specs.Cipher.{matrixRow, mixRow}
 use Rattle.fips197.specs.InvCipher.{invMixRow}
 use Rattle.fips197.specs.KeyExpansion.{rotWord}
 use Rattle.aes.specs.Columns.{scaled, staggered, mixed}
+use Rattle.aes.specs.Form.{pairBytes}
+use Rattle.aes.specs.declared.Pair.{Pair}
 
 -- the last of four terms put first
 turn : (a b c d : ℕ) → bitXor (bitXor (bitXor a b) c) d ≡ bitXor (bitXor (bitXor d a) b) c
 turn a b c d =
     xor-comm (bitXor (bitXor a b) c) d ∙ sym (xor-assoc d (bitXor a b) c) ∙ ap (λ (x : ℕ). bitXor x c) (sym (xor-assoc d a b))
 
-staggers : (p q r s : ℕ) (l : List ℕ) → staggered (scaled p l) (scaled q l) (scaled r l) (scaled s l) ≡ mixed (p ∷ q ∷ r ∷ s ∷ []) l
-unfolding staggered scaled mixed matrixRow
-staggers p q r s l =
-    let m : ℕ → ℕ → ℕ = λ i k. multiply (getD l i 0) k in
-    list4 refl
-    (turn (m 1 p) (m 2 q) (m 3 r) (m 0 s))
-    (turn (m 2 p) (m 3 q) (m 0 r) (m 1 s) ∙ turn (m 1 s) (m 2 p) (m 3 q) (m 0 r))
-    (turn (m 3 p) (m 0 q) (m 1 r) (m 2 s) ∙ turn (m 2 s) (m 3 p) (m 0 q) (m 1 r) ∙ turn (m 1 r) (m 2 s) (m 3 p) (m 0 q))
+module _ (p q r s x : ℕ) where
+  staggers : staggered (scaled p (leBytes 4 x)) (scaled q (leBytes 4 x)) (scaled r (leBytes 4 x)) (scaled s (leBytes 4 x)) ≡ mixed (p ∷ q ∷ r ∷ s ∷ []) (leBytes 4 x)
+  unfolding staggered scaled mixed matrixRow
+  staggers =
+      let m : ℕ → ℕ → ℕ = λ i k. multiply (getD (leBytes 4 x) i 0) k in
+      list4 refl
+      (turn (m 1 p) (m 2 q) (m 3 r) (m 0 s))
+      (turn (m 2 p) (m 3 q) (m 0 r) (m 1 s) ∙ turn (m 1 s) (m 2 p) (m 3 q) (m 0 r))
+      (turn (m 3 p) (m 0 q) (m 1 r) (m 2 s) ∙ turn (m 2 s) (m 3 p) (m 0 q) (m 1 r) ∙ turn (m 1 r) (m 2 s) (m 3 p) (m 0 q))
 
-module _ (p q r s : ℕ) (l : List ℕ) where
-  pub product : {a b c d : List ℕ} → a ≡ scaled p l → b ≡ scaled q l → c ≡ scaled r l → d ≡ scaled s l
-      → staggered a b c d ≡ mixed (p ∷ q ∷ r ∷ s ∷ []) l
+  pub product : {a b c d : List ℕ} → a ≡ scaled p (leBytes 4 x) → b ≡ scaled q (leBytes 4 x) → c ≡ scaled r (leBytes 4 x) → d ≡ scaled s (leBytes 4 x)
+      → staggered a b c d ≡ mixed (p ∷ q ∷ r ∷ s ∷ []) (leBytes 4 x)
   product {a} {b} {c} {d} e f g h =
-      ap₂ (λ (x y : List ℕ). staggered x y c d) e f ∙ ap₂ (λ (x y : List ℕ). staggered (scaled p l) (scaled q l) x y) g h ∙ staggers p q r s l
+      ap₂ (λ (u v : List ℕ). staggered u v c d) e f
+      ∙ ap₂ (λ (u v : List ℕ). staggered (scaled p (leBytes 4 x)) (scaled q (leBytes 4 x)) u v) g h ∙ staggers
 
 -- the sum as the code makes it, of words and words turned
 pub summed : (a x y z : ℕ) (b c d : List ℕ) → leBytes 4 x ≡ rotWord b → leBytes 4 y ≡ rotWord (rotWord c) → leBytes 4 z ≡ rotWord (rotWord (rotWord d))
@@ -44,36 +47,74 @@ summed a x y z b c d e f g =
     le-xor 4 (bitXor (bitXor a x) y) z
     ∙ ap₂ xorBytes (le-xor 4 (bitXor a x) y ∙ ap₂ xorBytes (le-xor 4 a x ∙ ap (xorBytes (leBytes 4 a)) e) f) g
 
--- the columns' factors, from the doubled column
-module _ (x x2 : ℕ) (e : leBytes 4 x2 ≡ scaled 2 (leBytes 4 x)) where
-  by-one : leBytes 4 x ≡ scaled 1 (leBytes 4 x)
-  unfolding scaled multiply multiplyBits
-  by-one = refl
+-- two functions at every byte, added
+xor-map : (f g : ℕ → ℕ) (l : List ℕ) → xorBytes (map f l) (map g l) ≡ map (λ (b : ℕ). bitXor (f b) (g b)) l
+xor-map f g [] = refl
+xor-map f g (b ∷ l) = cons refl (xor-map f g l)
 
-  by-three : leBytes 4 (bitXor x2 x) ≡ scaled 3 (leBytes 4 x)
-  unfolding scaled multiply multiplyBits
-  by-three = le-xor 4 x2 x ∙ ap (λ (l : List ℕ). xorBytes l (leBytes 4 x)) e
+-- the products of a word from the doubled word, over the width: y is x times k, each of n bytes
+abbrev Times : ℕ → ℕ → ℕ → ℕ → Type 0
+Times n k x y = leBytes n y ≡ scaled k (leBytes n x)
 
-  pub mixes : staggered (leBytes 4 x2) (leBytes 4 (bitXor x2 x)) (leBytes 4 x) (leBytes 4 x) ≡ mixed mixRow (leBytes 4 x)
-  mixes = product 2 3 1 1 (leBytes 4 x) e by-three by-one by-one
+by-one : (n x : ℕ) → Times n 1 x x
+unfolding scaled multiply multiplyBits
+by-one n x = sym (map-id (leBytes n x))
 
-module _ (x x2 x4 x8 : ℕ) (e : leBytes 4 x2 ≡ scaled 2 (leBytes 4 x)) (f : leBytes 4 x4 ≡ scaled 2 (leBytes 4 x2))
-    (g : leBytes 4 x8 ≡ scaled 2 (leBytes 4 x4)) where
-  by-four : leBytes 4 x4 ≡ scaled 4 (leBytes 4 x)
-  unfolding scaled multiply multiplyBits
-  by-four = f ∙ ap (scaled 2) e
+sum : (n x p q : ℕ) (f g : ℕ → ℕ) → leBytes n p ≡ map f (leBytes n x) → leBytes n q ≡ map g (leBytes n x)
+    → leBytes n (bitXor p q) ≡ map (λ (b : ℕ). bitXor (f b) (g b)) (leBytes n x)
+sum n x p q f g d e = le-xor n p q ∙ ap₂ xorBytes d e ∙ xor-map f g (leBytes n x)
 
-  by-eight : leBytes 4 x8 ≡ scaled 8 (leBytes 4 x)
-  unfolding scaled multiply multiplyBits
-  by-eight = g ∙ ap (scaled 2) by-four
+record Products (n x x2 x4 x8 : ℕ) : Type 0 where
+  by14 : Times n 14 x (bitXor (bitXor x8 x4) x2)
+  by11 : Times n 11 x (bitXor (bitXor x8 x2) x)
+  by13 : Times n 13 x (bitXor (bitXor x8 x4) x)
+  by9 : Times n 9 x (bitXor x8 x)
 
-  -- two words added, and a third
-  three : (p q r : ℕ) {a b c : List ℕ} → leBytes 4 p ≡ a → leBytes 4 q ≡ b → leBytes 4 r ≡ c → leBytes 4 (bitXor (bitXor p q) r) ≡ xorBytes (xorBytes a b) c
-  three p q r k l m = le-xor 4 (bitXor p q) r ∙ ap₂ xorBytes (le-xor 4 p q ∙ ap₂ xorBytes k l) m
+products : (n x x2 x4 x8 : ℕ) → Times n 2 x x2 → Times n 2 x2 x4 → Times n 2 x4 x8 → Products n x x2 x4 x8
+unfolding scaled multiply multiplyBits
+products n x x2 x4 x8 e f g =
+    let l = leBytes n x in
+    let by : ℕ → ℕ → ℕ = λ k b. multiply b k in
+    let e1 = by-one n x in
+    let e4 : Times n 4 x x4 = f ∙ ap (scaled 2) e ∙ map-map (by 2) (by 2) l in
+    let e8 : Times n 8 x x8 = g ∙ ap (scaled 2) e4 ∙ map-map (by 2) (by 4) l in
+    let e12 = sum n x x8 x4 (by 8) (by 4) e8 e4 in
+    let e10 = sum n x x8 x2 (by 8) (by 2) e8 e in
+    record {
+      by14 = sum n x (bitXor x8 x4) x2 (by 12) (by 2) e12 e;
+      by11 = sum n x (bitXor x8 x2) x (by 10) (by 1) e10 e1;
+      by13 = sum n x (bitXor x8 x4) x (by 12) (by 1) e12 e1;
+      by9 = sum n x x8 x (by 8) (by 1) e8 e1;
+    }
 
-  pub inv-mixes : staggered (leBytes 4 (bitXor (bitXor x8 x4) x2)) (leBytes 4 (bitXor (bitXor x8 x2) x)) (leBytes 4 (bitXor (bitXor x8 x4) x))
-      (leBytes 4 (bitXor x8 x)) ≡ mixed invMixRow (leBytes 4 x)
-  unfolding scaled multiply multiplyBits
-  inv-mixes =
-      product 14 11 13 9 (leBytes 4 x) (three x8 x4 x2 by-eight by-four e) (three x8 x2 x by-eight e refl) (three x8 x4 x by-eight by-four refl)
-      (le-xor 4 x8 x ∙ ap (λ (l : List ℕ). xorBytes l (leBytes 4 x)) by-eight)
+pub mixes : (x x2 : ℕ) → Times 4 2 x x2 → staggered (leBytes 4 x2) (leBytes 4 (bitXor x2 x)) (leBytes 4 x) (leBytes 4 x) ≡ mixed mixRow (leBytes 4 x)
+unfolding scaled multiply multiplyBits
+mixes x x2 e = product 2 3 1 1 x e (sum 4 x x2 x (λ b. multiply b 2) (λ b. b) e (by-one 4 x)) (by-one 4 x) (by-one 4 x)
+
+pub inv-mixes : (x x2 x4 x8 : ℕ) → Times 4 2 x x2 → Times 4 2 x2 x4 → Times 4 2 x4 x8
+    → staggered (leBytes 4 (bitXor (bitXor x8 x4) x2)) (leBytes 4 (bitXor (bitXor x8 x2) x)) (leBytes 4 (bitXor (bitXor x8 x4) x)) (leBytes 4 (bitXor x8 x))
+    ≡ mixed invMixRow (leBytes 4 x)
+inv-mixes x x2 x4 x8 e f g =
+    let p = products 4 x x2 x4 x8 e f g in
+    product 14 11 13 9 x (p .by14) (p .by11) (p .by13) (p .by9)
+
+-- the same of two columns a and b side by side in x
+module _ (a b x x2 x4 x8 : ℕ) (s : leBytes 8 x ≡ leBytes 4 a ++ leBytes 4 b) where
+  parts : (k : ℕ) (p : Pair) → pairBytes p ≡ scaled k (leBytes 8 x) → Times 4 k a (p .low) × Times 4 k b (p .high)
+  unfolding scaled
+  parts k p h =
+      let l = h ∙ ap (scaled k) s in
+      (ap (take 4) l, ap (drop 4) l)
+
+  pub inv-mixes-pair : (p q r t : Pair) → Times 8 2 x x2 → Times 8 2 x2 x4 → Times 8 2 x4 x8
+      → pairBytes p ≡ leBytes 8 (bitXor (bitXor x8 x4) x2) → pairBytes q ≡ leBytes 8 (bitXor (bitXor x8 x2) x)
+      → pairBytes r ≡ leBytes 8 (bitXor (bitXor x8 x4) x) → pairBytes t ≡ leBytes 8 (bitXor x8 x)
+      → (staggered (leBytes 4 (p .low)) (leBytes 4 (q .low)) (leBytes 4 (r .low)) (leBytes 4 (t .low)) ≡ mixed invMixRow (leBytes 4 a))
+      × (staggered (leBytes 4 (p .high)) (leBytes 4 (q .high)) (leBytes 4 (r .high)) (leBytes 4 (t .high)) ≡ mixed invMixRow (leBytes 4 b))
+  inv-mixes-pair p q r t e f g hp hq hr ht =
+      let m = products 8 x x2 x4 x8 e f g in
+      let u = parts 14 p (hp ∙ m .by14) in
+      let v = parts 11 q (hq ∙ m .by11) in
+      let w = parts 13 r (hr ∙ m .by13) in
+      let z = parts 9 t (ht ∙ m .by9) in
+      (product 14 11 13 9 a (u .0) (v .0) (w .0) (z .0), product 14 11 13 9 b (u .1) (v .1) (w .1) (z .1))

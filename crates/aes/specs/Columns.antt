@@ -1,6 +1,6 @@
 -- A column of the state as one word of 32 bits, its byte 0 lowest.
 -- Assumes nothing.
-use mathlib.Core.List.{List, [], _∷_}
+use mathlib.Core.List.{List, [], _∷_, map}
 use Prim.Native.Nat.{ℕ, _+_, _%_}
 use lib.ListN.{getD}
 use Rattle.bits.specs.Words.{leBytes}
@@ -8,9 +8,9 @@ use Rattle.fips197.specs.Field.{add, multiply}
 use Rattle.fips197.specs.State.{word}
 use Rattle.fips197.specs.Cipher.{matrixRow}
 
--- every byte of a column times k
+-- every byte times k
 unfoldable pub scaled : ℕ → List ℕ → List ℕ
-scaled k l = word (λ j. multiply (getD l j 0) k)
+scaled k l = map (λ (b : ℕ). multiply b k) l
 
 -- byte j is the sum of byte j of a, byte j + 1 of b, byte j + 2 of c and byte j + 3 of d
 unfoldable pub staggered : List ℕ → List ℕ → List ℕ → List ℕ → List ℕ

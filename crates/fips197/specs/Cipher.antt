@@ -1,7 +1,7 @@
 -- FIPS 197 section 5.1: the cipher.
 -- Assumes nothing.
 use mathlib.Core.List.{List, [], _∷_}
-use Prim.Native.Nat.{ℕ, zero, suc, _+_, _-_, _*_, _%_}
+use Prim.Native.Nat.{ℕ, zero, suc, _+_, _-_, _%_}
 use lib.ListN.{getD}
 use Rattle.fips197.specs.Field.{add, multiply}
 use Rattle.fips197.specs.Sbox.{sbox}

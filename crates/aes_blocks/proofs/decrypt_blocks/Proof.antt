@@ -2,12 +2,6 @@ use Rattle.fips197.specs.Sbox.{invSbox}
 use borrow.Author.Needs.{needs}
 use Rattle.aes_blocks.proofs.decrypt_blocks.Statement.{statement}
 use Rattle.aes_blocks.proofs.decrypt_blocks.Tie as tie
-use Rattle.aes_blocks.proofs.decrypt_blocks.Reads as reads
-use Rattle.aes_blocks.proofs.decrypt_blocks.Lts as lts
-use Rattle.aes_blocks.proofs.decrypt_blocks_with.Reads as decrypt-blocks-with-reads
-use Rattle.aes_blocks.proofs.inv_mixed_keys.Reads as inv-mixed-keys-reads
-use Rattle.aes_blocks.proofs.tables.mix_tables.Reads as mix-tables-reads
-use Rattle.sbox.proofs.inverse.inverse_table.Reads as inverse-table-reads
 
 inverse-table-requires : tie.Need-inverse-table-requires
 inverse-table-requires c κs = search needs

@@ -13,12 +13,6 @@ use Rattle.aes.specs.Form.{bytesOf, nr, schedule}
 use Rattle.aes.proofs.Schedule.{rounds-few, inv-cipher-schedule}
 use Rattle.aes_blocks.proofs.decrypt_blocks_with.Statement.{statement}
 use Rattle.aes_blocks.proofs.decrypt_blocks_with.Tie as tie
-use Rattle.aes_blocks.proofs.decrypt_blocks_with.Reads as reads
-use Rattle.aes_blocks.proofs.decrypt_blocks_with.Lts as lts
-use Rattle.aes_blocks.proofs.table_inv_cipher.Reads as table-inv-cipher-reads
-use Rattle.aes.proofs.cipher.rounds.Reads as rounds-reads
-use Rattle.aes.proofs.word.block_at.Reads as block-at-reads
-use Rattle.aes.proofs.word.put_block.Reads as put-block-reads
 
 abbrev Inv-loop : tie.InvT-loop
 Inv-loop t u v w bytes₀ n count i₀ bytes i =

@@ -2,11 +2,6 @@ use Rattle.fips197.specs.Sbox.{sbox}
 use borrow.Author.Needs.{needs}
 use Rattle.aes_blocks.proofs.encrypt_blocks.Statement.{statement}
 use Rattle.aes_blocks.proofs.encrypt_blocks.Tie as tie
-use Rattle.aes_blocks.proofs.encrypt_blocks.Reads as reads
-use Rattle.aes_blocks.proofs.encrypt_blocks.Lts as lts
-use Rattle.aes_blocks.proofs.encrypt_blocks_with.Reads as encrypt-blocks-with-reads
-use Rattle.aes_blocks.proofs.tables.mix_tables.Reads as mix-tables-reads
-use Rattle.sbox.proofs.sbox_table.Reads as sbox-table-reads
 
 sbox-table-requires : tie.Need-sbox-table-requires
 sbox-table-requires c κs = search needs

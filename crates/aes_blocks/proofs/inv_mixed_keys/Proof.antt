@@ -1,5 +1,5 @@
 use mathlib.Core.Path.{_≡_, _∙_}
-use Prim.Native.Nat.{ℕ, _-_, _≤_}
+use Prim.Native.Nat.{_-_, _≤_}
 use native.Mathlib.Omega.{arith}
 use borrow.Author.Count.{below-none}
 use borrow.Author.Needs.{needs}
@@ -11,9 +11,6 @@ use Rattle.aes.specs.Columns.{mixed}
 use Rattle.aes_blocks.specs.Tables.{InvMixed}
 use Rattle.aes_blocks.proofs.inv_mixed_keys.Statement.{statement}
 use Rattle.aes_blocks.proofs.inv_mixed_keys.Tie as tie
-use Rattle.aes_blocks.proofs.inv_mixed_keys.Reads as reads
-use Rattle.aes_blocks.proofs.inv_mixed_keys.Lts as lts
-use Rattle.aes.proofs.mix.inv_mix_column.Reads as inv-mix-column-reads
 
 abbrev Inv-loop : tie.InvT-loop
 Inv-loop w v₀ i₀ v i = (i ≤ 60) × (length v ≡ 60) × InvMixed w i v

@@ -5,9 +5,6 @@ use Rattle.aes.specs.Columns.{mixed}
 use borrow.Author.Needs.{needs}
 use Rattle.aes_blocks.proofs.sub_shift_mix.Statement.{statement}
 use Rattle.aes_blocks.proofs.sub_shift_mix.Tie as tie
-use Rattle.aes_blocks.proofs.sub_shift_mix.Reads as reads
-use Rattle.aes_blocks.proofs.sub_shift_mix.Lts as lts
-use Rattle.aes_blocks.proofs.tables.table_column.Reads as table-column-reads
 
 table-column-requires : tie.Need-table-column-requires
 table-column-requires c κs = search needs

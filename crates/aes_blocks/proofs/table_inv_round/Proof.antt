@@ -6,10 +6,6 @@ use Rattle.aes.specs.Form.{bytesOf}
 use borrow.Author.Needs.{needs}
 use Rattle.aes_blocks.proofs.table_inv_round.Statement.{statement}
 use Rattle.aes_blocks.proofs.table_inv_round.Tie as tie
-use Rattle.aes_blocks.proofs.table_inv_round.Reads as reads
-use Rattle.aes_blocks.proofs.table_inv_round.Lts as lts
-use Rattle.aes_blocks.proofs.inv_shift_sub_mix.Reads as inv-shift-sub-mix-reads
-use Rattle.aes.proofs.cipher.add_round_key.Reads as add-round-key-reads
 
 inv-shift-sub-mix-requires : tie.Need-inv-shift-sub-mix-requires
 inv-shift-sub-mix-requires c κs = search needs

@@ -7,10 +7,6 @@ use Rattle.aes.specs.Form.{bytesOf}
 use borrow.Author.Needs.{needs}
 use Rattle.aes_blocks.proofs.table_round.Statement.{statement}
 use Rattle.aes_blocks.proofs.table_round.Tie as tie
-use Rattle.aes_blocks.proofs.table_round.Reads as reads
-use Rattle.aes_blocks.proofs.table_round.Lts as lts
-use Rattle.aes_blocks.proofs.sub_shift_mix.Reads as sub-shift-mix-reads
-use Rattle.aes.proofs.cipher.add_round_key.Reads as add-round-key-reads
 
 sub-shift-mix-requires : tie.Need-sub-shift-mix-requires
 sub-shift-mix-requires c κs = search needs

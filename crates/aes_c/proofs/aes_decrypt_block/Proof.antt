@@ -7,12 +7,6 @@ use Rattle.aes.specs.declared.KeySize.{KeySize}
 use borrow.Author.Needs.{needs}
 use Rattle.aes_c.proofs.aes_decrypt_block.Statement.{statement}
 use Rattle.aes_c.proofs.aes_decrypt_block.Tie as tie
-use Rattle.aes_c.proofs.aes_decrypt_block.Reads as reads
-use Rattle.aes_c.proofs.aes_decrypt_block.Lts as lts
-use Rattle.aes.proofs.inv_cipher.decrypt_block.Reads as decrypt-block-reads
-use Rattle.aes.proofs.word.from_bytes.Reads as from-bytes-reads
-use Rattle.aes.proofs.word.to_bytes.Reads as to-bytes-reads
-use Rattle.aes_c.proofs.key_size.Reads as key-size-reads
 
 key-size-requires : tie.Need-key-size-requires
 key-size-requires c κs = search needs

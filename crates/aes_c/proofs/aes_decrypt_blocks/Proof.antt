@@ -8,10 +8,6 @@ use Rattle.aes.specs.declared.KeySize.{KeySize}
 use borrow.Author.Needs.{needs}
 use Rattle.aes_c.proofs.aes_decrypt_blocks.Statement.{statement}
 use Rattle.aes_c.proofs.aes_decrypt_blocks.Tie as tie
-use Rattle.aes_c.proofs.aes_decrypt_blocks.Reads as reads
-use Rattle.aes_c.proofs.aes_decrypt_blocks.Lts as lts
-use Rattle.aes_blocks.proofs.decrypt_blocks.Reads as decrypt-blocks-reads
-use Rattle.aes_c.proofs.key_size.Reads as key-size-reads
 
 key-size-requires : tie.Need-key-size-requires
 key-size-requires c κs = search needs

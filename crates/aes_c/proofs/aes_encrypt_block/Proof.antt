@@ -7,12 +7,6 @@ use Rattle.aes.specs.declared.KeySize.{KeySize}
 use borrow.Author.Needs.{needs}
 use Rattle.aes_c.proofs.aes_encrypt_block.Statement.{statement}
 use Rattle.aes_c.proofs.aes_encrypt_block.Tie as tie
-use Rattle.aes_c.proofs.aes_encrypt_block.Reads as reads
-use Rattle.aes_c.proofs.aes_encrypt_block.Lts as lts
-use Rattle.aes.proofs.cipher.encrypt_block.Reads as encrypt-block-reads
-use Rattle.aes.proofs.word.from_bytes.Reads as from-bytes-reads
-use Rattle.aes.proofs.word.to_bytes.Reads as to-bytes-reads
-use Rattle.aes_c.proofs.key_size.Reads as key-size-reads
 
 key-size-requires : tie.Need-key-size-requires
 key-size-requires c κs = search needs

@@ -8,10 +8,6 @@ use Rattle.aes.specs.declared.KeySize.{KeySize}
 use borrow.Author.Needs.{needs}
 use Rattle.aes_c.proofs.aes_encrypt_blocks.Statement.{statement}
 use Rattle.aes_c.proofs.aes_encrypt_blocks.Tie as tie
-use Rattle.aes_c.proofs.aes_encrypt_blocks.Reads as reads
-use Rattle.aes_c.proofs.aes_encrypt_blocks.Lts as lts
-use Rattle.aes_blocks.proofs.encrypt_blocks.Reads as encrypt-blocks-reads
-use Rattle.aes_c.proofs.key_size.Reads as key-size-reads
 
 key-size-requires : tie.Need-key-size-requires
 key-size-requires c κs = search needs

@@ -8,11 +8,6 @@ use Rattle.aes.specs.declared.KeySize.{KeySize}
 use borrow.Author.Needs.{needs}
 use Rattle.aes_c.proofs.aes_key_expansion.Statement.{statement}
 use Rattle.aes_c.proofs.aes_key_expansion.Tie as tie
-use Rattle.aes_c.proofs.aes_key_expansion.Reads as reads
-use Rattle.aes_c.proofs.aes_key_expansion.Lts as lts
-use Rattle.aes.proofs.word.key_from_bytes.Reads as key-from-bytes-reads
-use Rattle.aes_c.proofs.key_size.Reads as key-size-reads
-use Rattle.aes_key.proofs.key_expansion.Reads as key-expansion-reads
 
 key-size-requires : tie.Need-key-size-requires
 key-size-requires c κs = search needs

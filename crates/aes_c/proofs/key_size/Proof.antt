@@ -3,8 +3,6 @@ use borrow.Author.Tests.{eq-eqb, ne-eqb}
 use Rattle.bits.proofs.Choice.{cond-on, cond-off}
 use Rattle.aes_c.proofs.key_size.Statement.{statement}
 use Rattle.aes_c.proofs.key_size.Tie as tie
-use Rattle.aes_c.proofs.key_size.Reads as reads
-use Rattle.aes_c.proofs.key_size.Lts as lts
 
 returns : tie.Need-returns
 returns c = sym (cond-on (eq-eqb (c .before .args .size) 0 (c .if1 .taken)) _ _)

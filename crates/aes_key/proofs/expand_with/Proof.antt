@@ -1,5 +1,5 @@
-use mathlib.Core.Path.{_≡_, refl, sym, ap, ap₂, _∙_}
-use Prim.Native.Nat.{ℕ, _+_, _-_, _*_, _≤_, _<_}
+use mathlib.Core.Path.{_≡_, sym, ap, ap₂, _∙_}
+use Prim.Native.Nat.{ℕ, _+_, _-_, _*_, _≤_}
 use native.Mathlib.Omega.{arith}
 use borrow.Author.Needs.{needs}
 use lib.ListN.{length, take, length-set}
@@ -10,11 +10,6 @@ use Rattle.aes.specs.Form.{bytesOf, nk}
 use Rattle.aes_key.proofs.Expansion.{expanded-none, expands, key-words-few, key-front}
 use Rattle.aes_key.proofs.expand_with.Statement.{statement}
 use Rattle.aes_key.proofs.expand_with.Tie as tie
-use Rattle.aes_key.proofs.expand_with.Reads as reads
-use Rattle.aes_key.proofs.expand_with.Lts as lts
-use Rattle.aes_key.proofs.key_front.Reads as key-front-reads
-use Rattle.aes_key.proofs.key_words.Reads as key-words-reads
-use Rattle.aes_key.proofs.next_word.Reads as next-word-reads
 
 abbrev Inv-loop : tie.InvT-loop
 Inv-loop t size w₀ i₀ n w i =

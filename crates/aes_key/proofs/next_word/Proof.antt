@@ -8,10 +8,6 @@ use Rattle.aes_key.proofs.Expansion.{next-words}
 use borrow.Author.Needs.{needs}
 use Rattle.aes_key.proofs.next_word.Statement.{statement}
 use Rattle.aes_key.proofs.next_word.Tie as tie
-use Rattle.aes_key.proofs.next_word.Reads as reads
-use Rattle.aes_key.proofs.next_word.Lts as lts
-use Rattle.aes_key.proofs.key_words.Reads as key-words-reads
-use Rattle.aes_key.proofs.transformed.Reads as transformed-reads
 
 key-words-requires : tie.Need-key-words-requires
 key-words-requires c κs = search needs

@@ -3,8 +3,6 @@ use Rattle.aes_key.proofs.Expansion.{power-low, power-high}
 use borrow.Author.Needs.{needs}
 use Rattle.aes_key.proofs.power_of_x.Statement.{statement}
 use Rattle.aes_key.proofs.power_of_x.Tie as tie
-use Rattle.aes_key.proofs.power_of_x.Reads as reads
-use Rattle.aes_key.proofs.power_of_x.Lts as lts
 
 cast-result : tie.Need-cast-result
 cast-result c = search needs

@@ -1,8 +1,6 @@
 use borrow.Author.Needs.{needs}
 use Rattle.aes_key.proofs.quotient.Statement.{statement}
 use Rattle.aes_key.proofs.quotient.Tie as tie
-use Rattle.aes_key.proofs.quotient.Reads as reads
-use Rattle.aes_key.proofs.quotient.Lts as lts
 
 enum-told : tie.Need-enum-told
 enum-told c = search needs

@@ -1,8 +1,6 @@
 use borrow.Author.Needs.{needs}
 use Rattle.aes_key.proofs.remainder.Statement.{statement}
 use Rattle.aes_key.proofs.remainder.Tie as tie
-use Rattle.aes_key.proofs.remainder.Reads as reads
-use Rattle.aes_key.proofs.remainder.Lts as lts
 
 enum-told : tie.Need-enum-told
 enum-told c = search needs

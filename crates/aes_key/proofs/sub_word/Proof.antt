@@ -3,9 +3,6 @@ use Rattle.fips197.specs.KeyExpansion.{subWord}
 use borrow.Author.Needs.{needs}
 use Rattle.aes_key.proofs.sub_word.Statement.{statement}
 use Rattle.aes_key.proofs.sub_word.Tie as tie
-use Rattle.aes_key.proofs.sub_word.Reads as reads
-use Rattle.aes_key.proofs.sub_word.Lts as lts
-use Rattle.aes.proofs.word.sub_diagonal.Reads as sub-diagonal-reads
 
 sub-diagonal-requires : tie.Need-sub-diagonal-requires
 sub-diagonal-requires c κs = search needs

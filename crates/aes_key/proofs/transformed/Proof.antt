@@ -1,4 +1,4 @@
-use mathlib.Core.Path.{_≡_, sym, ap, ap₂, _∙_}
+use mathlib.Core.Path.{sym, ap, ap₂, _∙_}
 use mathlib.Core.Bool.{_&&_}
 use lib.Dec.{eqb, ltb}
 use Prim.Native.Nat.{ℕ, _-_}
@@ -10,14 +10,6 @@ use Rattle.aes_key.proofs.Expansion.{constants, with-constant, substitu
 use borrow.Author.Needs.{needs}
 use Rattle.aes_key.proofs.transformed.Statement.{statement}
 use Rattle.aes_key.proofs.transformed.Tie as tie
-use Rattle.aes_key.proofs.transformed.Reads as reads
-use Rattle.aes_key.proofs.transformed.Lts as lts
-use Rattle.aes_key.proofs.key_words.Reads as key-words-reads
-use Rattle.aes_key.proofs.power_of_x.Reads as power-of-x-reads
-use Rattle.aes_key.proofs.quotient.Reads as quotient-reads
-use Rattle.aes_key.proofs.remainder.Reads as remainder-reads
-use Rattle.aes_key.proofs.sub_word.Reads as sub-word-reads
-use Rattle.aes.proofs.word.rot_word.Reads as rot-word-reads
 
 remainder-requires : tie.Need-remainder-requires
 remainder-requires c κs = search needs

@@ -4,8 +4,6 @@ use lib.ListN.{length}
 use borrow.Author.Needs.{needs}
 use Rattle.vectors.proofs.eight_times.Statement.{statement}
 use Rattle.vectors.proofs.eight_times.Tie as tie
-use Rattle.vectors.proofs.eight_times.Reads as reads
-use Rattle.vectors.proofs.eight_times.Lts as lts
 
 abbrev Inv-loop : tie.InvT-loop
 Inv-loop block bytes₀ i₀ bytes i = (i ≤ 128) × (length bytes ≡ 128)

@@ -2,10 +2,6 @@ use Prim.Native.Nat.{_≤_, _-_}
 use borrow.Author.Needs.{needs}
 use Rattle.vectors.proofs.print_blocks.Statement.{statement}
 use Rattle.vectors.proofs.print_blocks.Tie as tie
-use Rattle.vectors.proofs.print_blocks.Reads as reads
-use Rattle.vectors.proofs.print_blocks.Lts as lts
-use Rattle.aes.proofs.word.block_at.Reads as block-at-reads
-use Rattle.vectors.proofs.print_block.Reads as print-block-reads
 
 abbrev Inv-loop : tie.InvT-loop
 Inv-loop bytes n i₀ i = i ≤ n

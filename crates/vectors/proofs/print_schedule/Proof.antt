@@ -2,10 +2,6 @@ use Prim.Native.Nat.{_≤_, _-_}
 use borrow.Author.Needs.{needs}
 use Rattle.vectors.proofs.print_schedule.Statement.{statement}
 use Rattle.vectors.proofs.print_schedule.Tie as tie
-use Rattle.vectors.proofs.print_schedule.Reads as reads
-use Rattle.vectors.proofs.print_schedule.Lts as lts
-use Rattle.vectors.proofs.print.Reads as print-reads
-use Rattle.vectors.proofs.print_word.Reads as print-word-reads
 
 abbrev Inv-loop : tie.InvT-loop
 Inv-loop rounds w i₀ t5 i = i ≤ 60

@@ -3,8 +3,6 @@ use Rattle.bits.proofs.Words.{le-xor}
 use Rattle.fips197.specs.Cipher.{addRoundKey}
 use Rattle.aes.proofs.cipher.add_round_key.Statement.{statement}
 use Rattle.aes.proofs.cipher.add_round_key.Tie as tie
-use Rattle.aes.proofs.cipher.add_round_key.Reads as reads
-use Rattle.aes.proofs.cipher.add_round_key.Lts as lts
 
 returns : tie.Need-returns
 unfolding addRoundKey

@@ -8,10 +8,6 @@ use Rattle.aes.proofs.Schedule.{rounds-few, cipher-schedule}
 use borrow.Author.Needs.{needs}
 use Rattle.aes.proofs.cipher.encrypt_with.Statement.{statement}
 use Rattle.aes.proofs.cipher.encrypt_with.Tie as tie
-use Rattle.aes.proofs.cipher.encrypt_with.Reads as reads
-use Rattle.aes.proofs.cipher.encrypt_with.Lts as lts
-use Rattle.aes.proofs.cipher.cipher_rounds.Reads as cipher-rounds-reads
-use Rattle.aes.proofs.cipher.rounds.Reads as rounds-reads
 
 rounds-requires : tie.Need-rounds-requires
 rounds-requires c κs = search needs

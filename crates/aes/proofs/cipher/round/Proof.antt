@@ -7,11 +7,6 @@ use Rattle.aes.specs.Form.{bytesOf}
 use borrow.Author.Needs.{needs}
 use Rattle.aes.proofs.cipher.round.Statement.{statement}
 use Rattle.aes.proofs.cipher.round.Tie as tie
-use Rattle.aes.proofs.cipher.round.Reads as reads
-use Rattle.aes.proofs.cipher.round.Lts as lts
-use Rattle.aes.proofs.cipher.add_round_key.Reads as add-round-key-reads
-use Rattle.aes.proofs.cipher.sub_shift.Reads as sub-shift-reads
-use Rattle.aes.proofs.mix.mix_columns.Reads as mix-columns-reads
 
 sub-shift-requires : tie.Need-sub-shift-requires
 sub-shift-requires c κs = search needs

@@ -6,8 +6,6 @@ use Rattle.aes.proofs.Schedule.{word-words}
 use borrow.Author.Needs.{needs}
 use Rattle.aes.proofs.cipher.round_key.Statement.{statement}
 use Rattle.aes.proofs.cipher.round_key.Tie as tie
-use Rattle.aes.proofs.cipher.round_key.Reads as reads
-use Rattle.aes.proofs.cipher.round_key.Lts as lts
 
 mul-i : tie.Need-mul-i
 mul-i c = search needs

@@ -1,8 +1,6 @@
 use borrow.Author.Needs.{needs}
 use Rattle.aes.proofs.cipher.rounds.Statement.{statement}
 use Rattle.aes.proofs.cipher.rounds.Tie as tie
-use Rattle.aes.proofs.cipher.rounds.Reads as reads
-use Rattle.aes.proofs.cipher.rounds.Lts as lts
 
 enum-told : tie.Need-enum-told
 enum-told c = search needs

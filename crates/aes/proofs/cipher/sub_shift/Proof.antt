@@ -4,9 +4,6 @@ use Rattle.fips197.specs.Cipher.{shiftRows, subBytes}
 use borrow.Author.Needs.{needs}
 use Rattle.aes.proofs.cipher.sub_shift.Statement.{statement}
 use Rattle.aes.proofs.cipher.sub_shift.Tie as tie
-use Rattle.aes.proofs.cipher.sub_shift.Reads as reads
-use Rattle.aes.proofs.cipher.sub_shift.Lts as lts
-use Rattle.aes.proofs.word.sub_diagonal.Reads as sub-diagonal-reads
 
 sub-diagonal-requires : tie.Need-sub-diagonal-requires
 sub-diagonal-requires c κs = search needs

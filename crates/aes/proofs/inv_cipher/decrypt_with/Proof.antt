@@ -8,10 +8,6 @@ use Rattle.aes.proofs.Schedule.{rounds-few, inv-cipher-schedule}
 use borrow.Author.Needs.{needs}
 use Rattle.aes.proofs.inv_cipher.decrypt_with.Statement.{statement}
 use Rattle.aes.proofs.inv_cipher.decrypt_with.Tie as tie
-use Rattle.aes.proofs.inv_cipher.decrypt_with.Reads as reads
-use Rattle.aes.proofs.inv_cipher.decrypt_with.Lts as lts
-use Rattle.aes.proofs.cipher.rounds.Reads as rounds-reads
-use Rattle.aes.proofs.inv_cipher.inv_cipher_rounds.Reads as inv-cipher-rounds-reads
 
 rounds-requires : tie.Need-rounds-requires
 rounds-requires c κs = search needs

@@ -1,5 +1,5 @@
 use mathlib.Core.Path.{_≡_, refl}
-use Prim.Native.Nat.{ℕ, _-_, _<_}
+use Prim.Native.Nat.{_-_, _<_}
 use native.Mathlib.Omega.{arith}
 use borrow.Author.Needs.{needs}
 use Rattle.bits.specs.Words.{leWords}
@@ -8,12 +8,6 @@ use Rattle.aes.specs.Form.{bytesOf}
 use Rattle.aes.proofs.Rounds.{inv-rounds-more, inv-cipher-ends}
 use Rattle.aes.proofs.inv_cipher.inv_cipher_rounds.Statement.{statement}
 use Rattle.aes.proofs.inv_cipher.inv_cipher_rounds.Tie as tie
-use Rattle.aes.proofs.inv_cipher.inv_cipher_rounds.Reads as reads
-use Rattle.aes.proofs.inv_cipher.inv_cipher_rounds.Lts as lts
-use Rattle.aes.proofs.cipher.add_round_key.Reads as add-round-key-reads
-use Rattle.aes.proofs.cipher.round_key.Reads as round-key-reads
-use Rattle.aes.proofs.inv_cipher.inv_final_round.Reads as inv-final-round-reads
-use Rattle.aes.proofs.inv_cipher.inv_round.Reads as inv-round-reads
 
 abbrev Inv-loop : tie.InvT-loop
 Inv-loop t w n s₀ i₀ s i = (i < n) × (invRounds (leWords 4 w) i (bytesOf s) ≡ invRounds (leWords 4 w) (n - 1) (bytesOf s₀))

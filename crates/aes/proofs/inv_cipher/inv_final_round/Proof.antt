@@ -7,10 +7,6 @@ use Rattle.aes.specs.Form.{bytesOf}
 use borrow.Author.Needs.{needs}
 use Rattle.aes.proofs.inv_cipher.inv_final_round.Statement.{statement}
 use Rattle.aes.proofs.inv_cipher.inv_final_round.Tie as tie
-use Rattle.aes.proofs.inv_cipher.inv_final_round.Reads as reads
-use Rattle.aes.proofs.inv_cipher.inv_final_round.Lts as lts
-use Rattle.aes.proofs.cipher.add_round_key.Reads as add-round-key-reads
-use Rattle.aes.proofs.inv_cipher.inv_shift_sub.Reads as inv-shift-sub-reads
 
 inv-shift-sub-requires : tie.Need-inv-shift-sub-requires
 inv-shift-sub-requires c κs = search needs

@@ -3,10 +3,6 @@ use Rattle.fips197.specs.InvCipher.{invMixColumns, invRound}
 use borrow.Author.Needs.{needs}
 use Rattle.aes.proofs.inv_cipher.inv_round.Statement.{statement}
 use Rattle.aes.proofs.inv_cipher.inv_round.Tie as tie
-use Rattle.aes.proofs.inv_cipher.inv_round.Reads as reads
-use Rattle.aes.proofs.inv_cipher.inv_round.Lts as lts
-use Rattle.aes.proofs.inv_cipher.inv_final_round.Reads as inv-final-round-reads
-use Rattle.aes.proofs.mix.inv_mix_columns.Reads as inv-mix-columns-reads
 
 inv-final-round-requires : tie.Need-inv-final-round-requires
 inv-final-round-requires c κs = search needs

@@ -4,9 +4,6 @@ use Rattle.fips197.specs.InvCipher.{invShiftRows, invSubBytes}
 use borrow.Author.Needs.{needs}
 use Rattle.aes.proofs.inv_cipher.inv_shift_sub.Statement.{statement}
 use Rattle.aes.proofs.inv_cipher.inv_shift_sub.Tie as tie
-use Rattle.aes.proofs.inv_cipher.inv_shift_sub.Reads as reads
-use Rattle.aes.proofs.inv_cipher.inv_shift_sub.Lts as lts
-use Rattle.aes.proofs.word.sub_diagonal.Reads as sub-diagonal-reads
 
 sub-diagonal-requires : tie.Need-sub-diagonal-requires
 sub-diagonal-requires c κs = search needs

@@ -3,10 +3,6 @@ use Rattle.aes.proofs.Staggered.{inv-mixes}
 use borrow.Author.Needs.{needs}
 use Rattle.aes.proofs.mix.inv_mix_column.Statement.{statement}
 use Rattle.aes.proofs.mix.inv_mix_column.Tie as tie
-use Rattle.aes.proofs.mix.inv_mix_column.Reads as reads
-use Rattle.aes.proofs.mix.inv_mix_column.Lts as lts
-use Rattle.aes.proofs.mix.stagger.Reads as stagger-reads
-use Rattle.aes.proofs.mix.xtime.Reads as xtime-reads
 
 xtime-requires : tie.Need-xtime-requires
 xtime-requires c κs = search needs

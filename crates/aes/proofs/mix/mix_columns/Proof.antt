@@ -1,13 +1,9 @@
 use Rattle.bits.proofs.Lists.{four}
 use Rattle.fips197.specs.Cipher.{mixBy, mixColumns}
-use Rattle.fips197.specs.InvCipher.{invMixColumns}
 use Rattle.aes.specs.Columns.{mixed}
 use borrow.Author.Needs.{needs}
 use Rattle.aes.proofs.mix.mix_columns.Statement.{statement}
 use Rattle.aes.proofs.mix.mix_columns.Tie as tie
-use Rattle.aes.proofs.mix.mix_columns.Reads as reads
-use Rattle.aes.proofs.mix.mix_columns.Lts as lts
-use Rattle.aes.proofs.mix.mix_column.Reads as mix-column-reads
 
 mix-column-requires : tie.Need-mix-column-requires
 mix-column-requires c κs = search needs

@@ -4,9 +4,6 @@ use Rattle.aes.proofs.Staggered.{summed}
 use borrow.Author.Needs.{needs}
 use Rattle.aes.proofs.mix.stagger.Statement.{statement}
 use Rattle.aes.proofs.mix.stagger.Tie as tie
-use Rattle.aes.proofs.mix.stagger.Reads as reads
-use Rattle.aes.proofs.mix.stagger.Lts as lts
-use Rattle.aes.proofs.word.rot_word.Reads as rot-word-reads
 
 rot-word-requires : tie.Need-rot-word-requires
 rot-word-requires c κs = search needs

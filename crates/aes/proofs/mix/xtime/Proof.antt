@@ -1,14 +1,14 @@
-use Rattle.aes.proofs.Words.{xtimes, top-fits}
+use Prim.Native.Nat.{_^_}
+use lib.Dec.{lit<}
+use Rattle.aes.proofs.Xtime.{xtimes, top-fits}
 use Rattle.aes.proofs.mix.xtime.Statement.{statement}
 use Rattle.aes.proofs.mix.xtime.Tie as tie
-use Rattle.aes.proofs.mix.xtime.Reads as reads
-use Rattle.aes.proofs.mix.xtime.Lts as lts
 
 mul-result : tie.Need-mul-result
-mul-result c = record { fits = top-fits (c .args .x) (c .fits .x .fits) }
+mul-result c = record { fits = top-fits 4 (2 ^ 32) (c .args .x) (lit< tt) }
 
 returns : tie.Need-returns
-returns c = xtimes (c .args .x) (c .fits .x .fits)
+returns c = xtimes 4 (2 ^ 32) (c .args .x) (lit< tt)
 
 pub xtime-spec : {M : Type 1} → statement M
 xtime-spec = tie.close (tie.spec mul-result returns)

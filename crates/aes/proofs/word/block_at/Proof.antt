@@ -3,9 +3,6 @@ use Rattle.bits.proofs.Lists.{four, part-sixteen}
 use borrow.Author.Needs.{needs}
 use Rattle.aes.proofs.word.block_at.Statement.{statement}
 use Rattle.aes.proofs.word.block_at.Tie as tie
-use Rattle.aes.proofs.word.block_at.Reads as reads
-use Rattle.aes.proofs.word.block_at.Lts as lts
-use Rattle.aes.proofs.word.word_at.Reads as word-at-reads
 
 word-at-requires : tie.Need-word-at-requires
 word-at-requires c κs = search needs

@@ -5,9 +5,6 @@ use lib.Seq.{take-all}
 use borrow.Author.Needs.{needs}
 use Rattle.aes.proofs.word.from_bytes.Statement.{statement}
 use Rattle.aes.proofs.word.from_bytes.Tie as tie
-use Rattle.aes.proofs.word.from_bytes.Reads as reads
-use Rattle.aes.proofs.word.from_bytes.Lts as lts
-use Rattle.aes.proofs.word.block_at.Reads as block-at-reads
 
 slice-aggregate-block-at : tie.Need-slice-aggregate-block-at
 slice-aggregate-block-at c = search needs

@@ -8,9 +8,6 @@ use Rattle.bits.proofs.Lists.{part-add}
 use borrow.Author.Needs.{needs}
 use Rattle.aes.proofs.word.key_from_bytes.Statement.{statement}
 use Rattle.aes.proofs.word.key_from_bytes.Tie as tie
-use Rattle.aes.proofs.word.key_from_bytes.Reads as reads
-use Rattle.aes.proofs.word.key_from_bytes.Lts as lts
-use Rattle.aes.proofs.word.block_at.Reads as block-at-reads
 
 slice-aggregate-block-at : tie.Need-slice-aggregate-block-at
 slice-aggregate-block-at c = search needs

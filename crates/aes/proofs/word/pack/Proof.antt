@@ -3,9 +3,6 @@ use Rattle.aes.proofs.Words.{is-bytes}
 use borrow.Author.Needs.{needs}
 use Rattle.aes.proofs.word.pack.Statement.{statement}
 use Rattle.aes.proofs.word.pack.Tie as tie
-use Rattle.aes.proofs.word.pack.Reads as reads
-use Rattle.aes.proofs.word.pack.Lts as lts
-use Rattle.aes.proofs.word.wide.Reads as wide-reads
 
 wide-requires : tie.Need-wide-requires
 wide-requires c κs = search needs

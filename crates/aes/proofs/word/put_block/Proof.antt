@@ -7,9 +7,6 @@ use Rattle.bits.proofs.Lists.{sets-sixteen}
 use borrow.Author.Needs.{needs}
 use Rattle.aes.proofs.word.put_block.Statement.{statement}
 use Rattle.aes.proofs.word.put_block.Tie as tie
-use Rattle.aes.proofs.word.put_block.Reads as reads
-use Rattle.aes.proofs.word.put_block.Lts as lts
-use Rattle.aes.proofs.word.put_word.Reads as put-word-reads
 
 put-word-requires : tie.Need-put-word-requires
 put-word-requires c κs = search needs

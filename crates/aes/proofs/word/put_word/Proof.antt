@@ -6,12 +6,6 @@ use Rattle.bits.proofs.Lists.{list4, sets-four}
 use borrow.Author.Needs.{needs}
 use Rattle.aes.proofs.word.put_word.Statement.{statement}
 use Rattle.aes.proofs.word.put_word.Tie as tie
-use Rattle.aes.proofs.word.put_word.Reads as reads
-use Rattle.aes.proofs.word.put_word.Lts as lts
-use Rattle.aes.proofs.word.byte0.Reads as byte0-reads
-use Rattle.aes.proofs.word.byte1.Reads as byte1-reads
-use Rattle.aes.proofs.word.byte2.Reads as byte2-reads
-use Rattle.aes.proofs.word.byte3.Reads as byte3-reads
 
 byte0-requires : tie.Need-byte0-requires
 byte0-requires c κs = search needs

@@ -3,8 +3,6 @@ use Rattle.aes.proofs.Words.{turned}
 use borrow.Author.Needs.{needs}
 use Rattle.aes.proofs.word.rot_word.Statement.{statement}
 use Rattle.aes.proofs.word.rot_word.Tie as tie
-use Rattle.aes.proofs.word.rot_word.Reads as reads
-use Rattle.aes.proofs.word.rot_word.Lts as lts
 
 add-result : tie.Need-add-result
 add-result c = search needs

@@ -6,14 +6,6 @@ use Rattle.bits.proofs.Lists.{list4}
 use borrow.Author.Needs.{needs}
 use Rattle.aes.proofs.word.sub_diagonal.Statement.{statement}
 use Rattle.aes.proofs.word.sub_diagonal.Tie as tie
-use Rattle.aes.proofs.word.sub_diagonal.Reads as reads
-use Rattle.aes.proofs.word.sub_diagonal.Lts as lts
-use Rattle.aes.proofs.word.byte0.Reads as byte0-reads
-use Rattle.aes.proofs.word.byte1.Reads as byte1-reads
-use Rattle.aes.proofs.word.byte2.Reads as byte2-reads
-use Rattle.aes.proofs.word.byte3.Reads as byte3-reads
-use Rattle.aes.proofs.word.entry.Reads as entry-reads
-use Rattle.aes.proofs.word.pack.Reads as pack-reads
 
 byte0-requires : tie.Need-byte0-requires
 byte0-requires c κs = search needs

@@ -4,9 +4,6 @@ use Rattle.bits.proofs.Lists.{part-four}
 use borrow.Author.Needs.{needs}
 use Rattle.aes.proofs.word.word_at.Statement.{statement}
 use Rattle.aes.proofs.word.word_at.Tie as tie
-use Rattle.aes.proofs.word.word_at.Reads as reads
-use Rattle.aes.proofs.word.word_at.Lts as lts
-use Rattle.aes.proofs.word.pack.Reads as pack-reads
 
 add-pack : tie.Need-add-pack
 add-pack c = search needs

@@ -11,10 +11,6 @@ use Rattle.aes_blocks.specs.Tables.{firstRow}
 use Rattle.aes_blocks.proofs.Columns.{part, first-part, first-rule}
 use Rattle.aes_blocks.proofs.tables.first_table.Statement.{statement}
 use Rattle.aes_blocks.proofs.tables.first_table.Tie as tie
-use Rattle.aes_blocks.proofs.tables.first_table.Reads as reads
-use Rattle.aes_blocks.proofs.tables.first_table.Lts as lts
-use Rattle.aes_blocks.proofs.tables.matrix_column.Reads as matrix-column-reads
-use Rattle.aes.proofs.word.wide.Reads as wide-reads
 
 abbrev Inv-loop : tie.InvT-loop
 Inv-loop direction t r₀ i₀ r i =

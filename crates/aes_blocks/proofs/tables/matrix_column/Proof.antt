@@ -6,10 +6,6 @@ use Rattle.aes.specs.declared.Direction.{Direction}
 use borrow.Author.Needs.{needs}
 use Rattle.aes_blocks.proofs.tables.matrix_column.Statement.{statement}
 use Rattle.aes_blocks.proofs.tables.matrix_column.Tie as tie
-use Rattle.aes_blocks.proofs.tables.matrix_column.Reads as reads
-use Rattle.aes_blocks.proofs.tables.matrix_column.Lts as lts
-use Rattle.aes.proofs.mix.inv_mix_column.Reads as inv-mix-column-reads
-use Rattle.aes.proofs.mix.mix_column.Reads as mix-column-reads
 
 enum-told : tie.Need-enum-told
 enum-told c = search needs

@@ -2,10 +2,6 @@ use Rattle.aes_blocks.specs.Tables.{firstRow}
 use borrow.Author.Needs.{needs}
 use Rattle.aes_blocks.proofs.tables.mix_tables.Statement.{statement}
 use Rattle.aes_blocks.proofs.tables.mix_tables.Tie as tie
-use Rattle.aes_blocks.proofs.tables.mix_tables.Reads as reads
-use Rattle.aes_blocks.proofs.tables.mix_tables.Lts as lts
-use Rattle.aes_blocks.proofs.tables.first_table.Reads as first-table-reads
-use Rattle.aes_blocks.proofs.tables.turn_tables.Reads as turn-tables-reads
 
 first-table-requires : tie.Need-first-table-requires
 first-table-requires c κs = search needs

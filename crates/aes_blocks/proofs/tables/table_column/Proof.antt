@@ -6,9 +6,6 @@ use Rattle.aes_blocks.proofs.Columns.{four-parts}
 use borrow.Author.Needs.{needs}
 use Rattle.aes_blocks.proofs.tables.table_column.Statement.{statement}
 use Rattle.aes_blocks.proofs.tables.table_column.Tie as tie
-use Rattle.aes_blocks.proofs.tables.table_column.Reads as reads
-use Rattle.aes_blocks.proofs.tables.table_column.Lts as lts
-use Rattle.aes_blocks.proofs.tables.entry.Reads as entry-reads
 
 entry-requires : tie.Need-entry-requires
 entry-requires c κs = search needs

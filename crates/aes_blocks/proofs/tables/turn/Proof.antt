@@ -3,9 +3,6 @@ use Rattle.fips197.specs.KeyExpansion.{rotWord}
 use borrow.Author.Needs.{needs}
 use Rattle.aes_blocks.proofs.tables.turn.Statement.{statement}
 use Rattle.aes_blocks.proofs.tables.turn.Tie as tie
-use Rattle.aes_blocks.proofs.tables.turn.Reads as reads
-use Rattle.aes_blocks.proofs.tables.turn.Lts as lts
-use Rattle.aes.proofs.word.rot_word.Reads as rot-word-reads
 
 rot-word-requires : tie.Need-rot-word-requires
 rot-word-requires c κs = search needs

@@ -10,9 +10,6 @@ use Rattle.aes_blocks.specs.Tables.{MixTable}
 use Rattle.aes_blocks.proofs.Columns.{part, turned-part}
 use Rattle.aes_blocks.proofs.tables.turn_tables.Statement.{statement}
 use Rattle.aes_blocks.proofs.tables.turn_tables.Tie as tie
-use Rattle.aes_blocks.proofs.tables.turn_tables.Reads as reads
-use Rattle.aes_blocks.proofs.tables.turn_tables.Lts as lts
-use Rattle.aes_blocks.proofs.tables.turn.Reads as turn-reads
 
 abbrev Inv-loop : tie.InvT-loop
 Inv-loop t₀ i₀ t i =
