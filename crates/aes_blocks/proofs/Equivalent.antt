@@ -2,7 +2,7 @@
 -- Assumes nothing.
 use mathlib.Core.Path.{_≡_, sym, ap, _∙_}
 use mathlib.Core.List.{List}
-use Prim.Native.Nat.{ℕ, _+_, _*_, _≤_, _<_}
+use Prim.Native.Nat.{ℕ, _+_, _*_, _<_}
 use native.Mathlib.Omega.{arith}
 use lib.ListN.{getD}
 use Rattle.bits.specs.Words.{leBytes, leWords}
@@ -17,7 +17,7 @@ use Rattle.aes.specs.Columns.{mixed}
 use Rattle.aes.proofs.Schedule.{word-words}
 use Rattle.aes_blocks.specs.Tables.{InvMixed}
 
-module _ (w v : List ℕ) (n : ℕ) (few : n ≤ 14) (rule : InvMixed w 60 v) where
+module _ (w v : List ℕ) (m n : ℕ) (below : n < m) (rule : InvMixed w (4 * m) v) where
   inv-mixed-key : roundKey (leWords 4 v) n ≡ invMixColumns (roundKey (leWords 4 w) n)
   unfolding roundKey mixed invMixColumns mixBy
   inv-mixed-key =

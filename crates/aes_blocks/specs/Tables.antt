@@ -13,9 +13,17 @@ use Rattle.aes.specs.Columns.{mixed}
 use Rattle.aes.specs.declared.Direction.{Direction}
 use Rattle.aes.specs.declared.Direction.the-variants.{Encrypt, Decrypt}
 
--- what column k of the matrix makes of f at a byte; four tables of 256 entries, one after the other, have it at 256 k + that byte
+-- what the byte s in row k makes of a mixed column: column k of the matrix, times s
+abbrev pub part : List ℕ → ℕ → ℕ → List ℕ
+part q s k = word (λ r. multiply s (getD q ((4 + k - r) % 4) 0))
+
+-- the products of column 0 of the matrix with the first n bytes
+abbrev pub Products : List ℕ → ℕ → List ℕ → Type 0
+Products q n m = (i : ℕ) → i < n → leBytes 4 (getD m i 0) ≡ part q i 0
+
+-- four tables of 256 entries, one after the other: at 256 k + i, the part that f of i makes in row k
 abbrev pub MixTable : List ℕ → (ℕ → ℕ) → ℕ → List ℕ → Type 0
-MixTable q f n t = (i : ℕ) → i < n → leBytes 4 (getD t i 0) ≡ word (λ r. multiply (f (i % 256)) (getD q ((4 + i / 256 - r) % 4) 0))
+MixTable q f n t = (i : ℕ) → i < n → leBytes 4 (getD t i 0) ≡ part q (f (i % 256)) (i / 256)
 
 -- FIPS 197 sections 5.1.3 and 5.3.3: the first row of the matrix
 abbrev pub firstRow : Direction → List ℕ

@@ -1,6 +1,6 @@
 // Several blocks under one key schedule, by tables of mixed columns.
 ghost use mathlib.Core.Path.{_≡_};
-ghost use Prim.Native.Nat.{ℕ, _/_, _≤_};
+ghost use Prim.Native.Nat.{ℕ, _*_, _/_, _≤_};
 ghost use lib.ListN.{length};
 ghost use Rattle.bits.specs.Blocks.{mapBlocks};
 ghost use Rattle.bits.specs.Words.{leWords};
@@ -13,7 +13,7 @@ ghost use Rattle.aes.specs.Form.{bytesOf, nr, schedule};
 
 pub mod tables;
 
-use crate::tables::mix_tables;
+use crate::tables::fill_tables;
 use crate::tables::table_column;
 use aes::Block;
 use aes::Direction;
@@ -78,13 +78,14 @@ fn inv_shift_sub_mix(t: &[u32; 1024], s: Block) -> Block
     }
 }
 
-// InvMixColumns of every round key, for the equivalent inverse cipher of FIPS 197 section 5.3.5.
-fn inv_mixed_keys(w: &[u32; 60]) -> [u32; 60]
-    ensures { λ r. ⌜ InvMixed (now (w .entry)) 60 r ⌝ }
+// InvMixColumns of the round keys below n, for the equivalent inverse cipher of FIPS 197 section 5.3.5.
+fn inv_mixed_keys(w: &[u32; 60], n: usize) -> [u32; 60]
+    requires { ⌜ n ≤ 14 ⌝ }
+    ensures { λ r. ⌜ InvMixed (now (w .entry)) (4 * n) r ⌝ }
 {
     let mut v = [0u32; 60];
     let mut i: usize = 0;
-    while i < 60 {
+    while i < 4 * n {
         let x = inv_mix_column(w[i]);
         v[i] = x;
         i += 1;
@@ -110,7 +111,7 @@ fn table_inv_cipher(
 ) -> Block
     requires { ⌜ MixTable invMixRow invSbox 1024 (now t) ⌝ }
     requires { ⌜ TableOf invSbox (now u) ⌝ }
-    requires { ⌜ InvMixed (now w) 60 (now v) ⌝ }
+    requires { ⌜ InvMixed (now w) (4 * n) (now v) ⌝ }
     requires { ⌜ (1 ≤ n) × (n ≤ 14) ⌝ }
     ensures { λ r. ⌜ bytesOf r ≡ invCipher (leWords 4 (now (w .entry))) n (bytesOf b) ⌝ }
 {
@@ -152,7 +153,8 @@ pub fn encrypt_blocks(size: KeySize, w: &[u32; 60], bytes: &mut [u8])
     ensures { λ _. ⌜ now (bytes .exit) ≡ mapBlocks (cipher (schedule size (now (w .entry))) (nr size)) (length (now (bytes .entry)) / 16) (now (bytes .entry)) ⌝ }
 {
     let u = sbox_table();
-    let t = mix_tables(Direction::Encrypt, &u);
+    let mut t = [0u32; 1024];
+    fill_tables(Direction::Encrypt, &u, &mut t);
     encrypt_blocks_with(&t, &u, size, w, bytes);
 }
 
@@ -166,7 +168,7 @@ pub fn decrypt_blocks_with(
 )
     requires { ⌜ MixTable invMixRow invSbox 1024 (now t) ⌝ }
     requires { ⌜ TableOf invSbox (now u) ⌝ }
-    requires { ⌜ InvMixed (now w) 60 (now v) ⌝ }
+    requires { ⌜ InvMixed (now w) (4 * nr size) (now v) ⌝ }
     ensures { λ _. ⌜ now (bytes .exit) ≡ mapBlocks (invCipher (schedule size (now (w .entry))) (nr size)) (length (now (bytes .entry)) / 16) (now (bytes .entry)) ⌝ }
 {
     let n = rounds(size);
@@ -184,7 +186,8 @@ pub fn decrypt_blocks(size: KeySize, w: &[u32; 60], bytes: &mut [u8])
     ensures { λ _. ⌜ now (bytes .exit) ≡ mapBlocks (invCipher (schedule size (now (w .entry))) (nr size)) (length (now (bytes .entry)) / 16) (now (bytes .entry)) ⌝ }
 {
     let u = inverse_table();
-    let t = mix_tables(Direction::Decrypt, &u);
-    let v = inv_mixed_keys(w);
+    let mut t = [0u32; 1024];
+    fill_tables(Direction::Decrypt, &u, &mut t);
+    let v = inv_mixed_keys(w, rounds(size));
     decrypt_blocks_with(&t, &u, &v, size, w, bytes);
 }

@@ -1,39 +1,96 @@
 // Four tables of mixed columns, built on the stack from an S-box where enough blocks follow to pay for them.
 ghost use mathlib.Core.Path.{_≡_};
 ghost use mathlib.Core.List.{List, [], _∷_};
-ghost use Prim.Native.Nat.{ℕ, _<_};
+ghost use Prim.Native.Nat.{ℕ, _*_, _^_, _≤_, _<_};
 ghost use lib.ListN.{length, getD};
 ghost use Rattle.bits.specs.Words.{leBytes};
 ghost use Rattle.fips197.specs.Sbox.{TableOf};
+ghost use Rattle.fips197.specs.Cipher.{mixRow};
+ghost use Rattle.fips197.specs.InvCipher.{invMixRow};
 ghost use Rattle.aes.specs.Columns.{mixed, diagonal};
-ghost use Rattle.aes_blocks.specs.Tables.{MixTable, firstRow};
+ghost use Rattle.aes_blocks.specs.Tables.{part, Products, MixTable, firstRow};
 use aes::Direction;
 use aes::mix::inv_mix_column;
 use aes::mix::mix_column;
 use aes::word::rot_word;
 use aes::word::wide;
 
-fn matrix_column(direction: Direction, x: u32) -> u32
-    ensures { λ r. ⌜ leBytes 4 r ≡ mixed (firstRow direction) (leBytes 4 x) ⌝ }
+// The products with k and the bytes that follow up to 2 k: sums of two, as k is a power of two.
+fn double_products(m: &mut [u32; 256], k: usize, x: u32)
+    requires { ⌜ length (now m) ≡ 256 ⌝ }
+    requires { ⌜ k ≤ 128 ⌝ }
+    ensures { λ _. ⌜ length (now (m .exit)) ≡ 256 ⌝ }
+    ensures { λ _. ⌜ ((q : List ℕ) (e : ℕ) → k ≡ 2 ^ e → leBytes 4 x ≡ part q k 0 → Products q k (now (m .entry)) → Products q (2 * k) (now (m .exit))) ⌝ }
 {
-    match direction {
-        Direction::Encrypt => mix_column(x),
-        Direction::Decrypt => inv_mix_column(x),
+    let mut i: usize = k;
+    while i < 2 * k {
+        let y = m[i - k] ^ x;
+        m[i] = y;
+        i += 1;
     }
 }
 
-// The first table, of a byte in row 0.
-fn first_table(direction: Direction, t: &[u8; 256]) -> [u32; 1024]
-    ensures { λ r. ⌜ ((f : ℕ → ℕ) → TableOf f (now (t .entry)) → MixTable (firstRow direction) f 256 r) ⌝ }
+// Column 0 of the inverse matrix, times each byte.
+fn inv_products(m: &mut [u32; 256])
+    requires { ⌜ length (now m) ≡ 256 ⌝ }
+    requires { ⌜ getD (now m) 0 0 ≡ 0 ⌝ }
+    ensures { λ _. ⌜ Products invMixRow 256 (now (m .exit)) ⌝ }
 {
-    let mut r = [0u32; 1024];
+    let mut k: usize = 1;
+    let mut e: usize = 0;
+    while e < 8 {
+        let x = inv_mix_column(k as u32);
+        double_products(m, k, x);
+        k = 2 * k;
+        e += 1;
+    }
+}
+
+fn product(m: &[u32; 256], s: u8) -> u32
+    ensures { λ r. ⌜ ((q : List ℕ) → Products q 256 (now (m .entry)) → leBytes 4 r ≡ part q s 0) ⌝ }
+{
+    m[s as usize]
+}
+
+// The first table for encryption: a column with a byte in row 0 alone, mixed.
+fn mix_table(t: &[u8; 256], r: &mut [u32; 1024])
+    requires { ⌜ length (now r) ≡ 1024 ⌝ }
+    ensures { λ _. ⌜ length (now (r .exit)) ≡ 1024 ⌝ }
+    ensures { λ _. ⌜ ((f : ℕ → ℕ) → TableOf f (now (t .entry)) → MixTable mixRow f 256 (now (r .exit))) ⌝ }
+{
     let mut i: usize = 0;
     while i < 256 {
-        let x = matrix_column(direction, wide(t[i]));
+        let x = mix_column(wide(t[i]));
         r[i] = x;
         i += 1;
     }
-    r
+}
+
+// The first table for decryption, where a look-up of the product takes less time.
+fn inv_mix_table(t: &[u8; 256], r: &mut [u32; 1024])
+    requires { ⌜ length (now r) ≡ 1024 ⌝ }
+    ensures { λ _. ⌜ length (now (r .exit)) ≡ 1024 ⌝ }
+    ensures { λ _. ⌜ ((f : ℕ → ℕ) → TableOf f (now (t .entry)) → MixTable invMixRow f 256 (now (r .exit))) ⌝ }
+{
+    let mut m = [0u32; 256];
+    inv_products(&mut m);
+    let mut i: usize = 0;
+    while i < 256 {
+        let x = product(&m, t[i]);
+        r[i] = x;
+        i += 1;
+    }
+}
+
+fn first_table(direction: Direction, t: &[u8; 256], r: &mut [u32; 1024])
+    requires { ⌜ length (now r) ≡ 1024 ⌝ }
+    ensures { λ _. ⌜ length (now (r .exit)) ≡ 1024 ⌝ }
+    ensures { λ _. ⌜ ((f : ℕ → ℕ) → TableOf f (now (t .entry)) → MixTable (firstRow direction) f 256 (now (r .exit))) ⌝ }
+{
+    match direction {
+        Direction::Encrypt => mix_table(t, r),
+        Direction::Decrypt => inv_mix_table(t, r),
+    }
 }
 
 // The word turned left by a byte.
@@ -56,12 +113,13 @@ fn turn_tables(t: &mut [u32; 1024])
     }
 }
 
-pub fn mix_tables(direction: Direction, t: &[u8; 256]) -> [u32; 1024]
-    ensures { λ r. ⌜ ((f : ℕ → ℕ) → TableOf f (now (t .entry)) → MixTable (firstRow direction) f 1024 r) ⌝ }
+// The tables in place: a returned array is copied.
+pub fn fill_tables(direction: Direction, t: &[u8; 256], r: &mut [u32; 1024])
+    requires { ⌜ length (now r) ≡ 1024 ⌝ }
+    ensures { λ _. ⌜ ((f : ℕ → ℕ) → TableOf f (now (t .entry)) → MixTable (firstRow direction) f 1024 (now (r .exit))) ⌝ }
 {
-    let mut r = first_table(direction, t);
-    turn_tables(&mut r);
-    r
+    first_table(direction, t, r);
+    turn_tables(r);
 }
 
 fn entry(t: &[u32; 1024], i: u32) -> u32

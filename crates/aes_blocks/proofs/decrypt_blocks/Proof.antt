@@ -1,4 +1,6 @@
+use native.Mathlib.Omega.{arith}
 use Rattle.fips197.specs.Sbox.{invSbox}
+use Rattle.aes.proofs.Schedule.{rounds-few}
 use borrow.Author.Needs.{needs}
 use Rattle.aes_blocks.proofs.decrypt_blocks.Statement.{statement}
 use Rattle.aes_blocks.proofs.decrypt_blocks.Tie as tie
@@ -6,16 +8,22 @@ use Rattle.aes_blocks.proofs.decrypt_blocks.Tie as tie
 inverse-table-requires : tie.Need-inverse-table-requires
 inverse-table-requires c κs = search needs
 
-mix-tables-requires : tie.Need-mix-tables-requires
-mix-tables-requires c κs = search needs
+fill-tables-requires : tie.Need-fill-tables-requires
+fill-tables-requires c κs = search needs
+
+rounds-requires : tie.Need-rounds-requires
+rounds-requires c κs = search needs
 
 inv-mixed-keys-requires : tie.Need-inv-mixed-keys-requires
-inv-mixed-keys-requires c κs = search needs
+inv-mixed-keys-requires c κs =
+    let few = rounds-few (c .before .before .before .before .before .before .args .size) in
+    omega (arith, c .rounds .ensures)
 
 decrypt-blocks-with-requires : tie.Need-decrypt-blocks-with-requires
 decrypt-blocks-with-requires c κs =
-    let rule = c .before .before .before .before .before .before .before .inverse-table .ensures in
-    (c .before .before .before .before .before .mix-tables .ensures invSbox rule, (rule, c .before .before .before .before .inv-mixed-keys .ensures))
+    let rule = c .before .before .before .before .before .before .before .before .before .inverse-table .ensures in
+    let e = c .before .before .before .before .before .rounds .ensures in
+    (c .before .before .before .before .before .before .fill-tables .ensures invSbox rule, (rule, λ i h. c .before .before .before .before .inv-mixed-keys .ensures i (omega arith)))
 
 same-length : tie.Need-same-length
 same-length c = search needs
@@ -28,7 +36,8 @@ decrypt-blocks-spec =
     tie.close
     (tie.spec
     inverse-table-requires
-    mix-tables-requires
+    fill-tables-requires
+    rounds-requires
     inv-mixed-keys-requires
     decrypt-blocks-with-requires
     same-length

@@ -35,9 +35,10 @@ block-at-requires c κs = omega (arith, c .before .before .loop .inv .1)
 
 table-inv-cipher-requires : tie.Need-table-inv-cipher-requires Inv-loop μ-loop
 table-inv-cipher-requires c κs =
-    let few = rounds-few (c .before .before .before .before .before .before .args .size) in
+    let st = c .before .before .before .before .before .before in
+    let few = rounds-few (st .args .size) in
     let e = c .before .before .before .before .rounds .ensures in
-    (c .before .before .before .before .before .before .pre .0, (c .before .before .before .before .before .before .pre .1 .0, (c .before .before .before .before .before .before .pre .1 .1, (omega arith, omega arith))))
+    (st .pre .0, (st .pre .1 .0, (λ i h. st .pre .1 .1 i (omega arith), (omega arith, omega arith))))
 
 put-block-requires : tie.Need-put-block-requires Inv-loop μ-loop
 put-block-requires c κs = omega (arith, c .before .before .before .before .before .loop .inv .1)

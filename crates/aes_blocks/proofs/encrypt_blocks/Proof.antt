@@ -6,13 +6,13 @@ use Rattle.aes_blocks.proofs.encrypt_blocks.Tie as tie
 sbox-table-requires : tie.Need-sbox-table-requires
 sbox-table-requires c κs = search needs
 
-mix-tables-requires : tie.Need-mix-tables-requires
-mix-tables-requires c κs = search needs
+fill-tables-requires : tie.Need-fill-tables-requires
+fill-tables-requires c κs = search needs
 
 encrypt-blocks-with-requires : tie.Need-encrypt-blocks-with-requires
 encrypt-blocks-with-requires c κs =
-    let rule = c .before .before .before .before .before .sbox-table .ensures in
-    (c .before .before .before .mix-tables .ensures sbox rule, rule)
+    let rule = c .before .before .before .before .before .before .sbox-table .ensures in
+    (c .before .before .before .fill-tables .ensures sbox rule, rule)
 
 same-length : tie.Need-same-length
 same-length c = search needs
@@ -25,7 +25,7 @@ encrypt-blocks-spec =
     tie.close
     (tie.spec
     sbox-table-requires
-    mix-tables-requires
+    fill-tables-requires
     encrypt-blocks-with-requires
     same-length
     returns)

@@ -1,5 +1,5 @@
 use mathlib.Core.Path.{_≡_, _∙_}
-use Prim.Native.Nat.{_-_, _≤_}
+use Prim.Native.Nat.{_-_, _*_, _≤_}
 use native.Mathlib.Omega.{arith}
 use borrow.Author.Count.{below-none}
 use borrow.Author.Needs.{needs}
@@ -13,13 +13,16 @@ use Rattle.aes_blocks.proofs.inv_mixed_keys.Statement.{statement}
 use Rattle.aes_blocks.proofs.inv_mixed_keys.Tie as tie
 
 abbrev Inv-loop : tie.InvT-loop
-Inv-loop w v₀ i₀ v i = (i ≤ 60) × (length v ≡ 60) × InvMixed w i v
+Inv-loop w n v₀ i₀ v i = (i ≤ 4 * n) × (length v ≡ 60) × InvMixed w i v
 
 abbrev μ-loop : tie.MeasureT-loop
-μ-loop w v₀ i₀ v i = 60 - i
+μ-loop w n v₀ i₀ v i = 4 * n - i
 
 loop-holds : tie.Need-loop-holds Inv-loop μ-loop
 loop-holds c = (search needs, search needs, below-none _)
+
+mul-loop : tie.Need-mul-loop Inv-loop μ-loop
+mul-loop c = search needs
 
 mul-inv-mix-column : tie.Need-mul-inv-mix-column Inv-loop μ-loop
 mul-inv-mix-column c = search needs
@@ -65,6 +68,7 @@ inv-mixed-keys-spec =
     Inv-loop
     μ-loop
     loop-holds
+    mul-loop
     mul-inv-mix-column
     element-copy-out-inv-mix-column
     inv-mix-column-requires

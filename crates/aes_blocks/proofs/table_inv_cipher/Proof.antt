@@ -47,7 +47,7 @@ loop-again c =
     let s = bytesOf (at-loop .loop .s) in (
       omega arith,
       inv-rounds-more (leWords 4 (st .args .w .now)) (at-loop .loop .i) s (omega arith) (at-loop .loop .inv .1) refl
-          (equivalent-round (st .args .w .now) (st .args .v .now) (at-loop .loop .i) (omega arith) (st .pre .1 .1 .0) s (c .before .round-key2 .ensures)
+          (equivalent-round (st .args .w .now) (st .args .v .now) (st .args .n) (at-loop .loop .i) (at-loop .loop .inv .0) (st .pre .1 .1 .0) s (c .before .round-key2 .ensures)
           (c .table-inv-round .ensures)),
     )
 

@@ -6,8 +6,8 @@ use borrow.Author.Needs.{needs}
 use lib.ListN.{length, length-set}
 use Rattle.bits.specs.Words.{leBytes}
 use Rattle.bits.proofs.Lists.{filled}
-use Rattle.aes_blocks.specs.Tables.{MixTable}
-use Rattle.aes_blocks.proofs.Columns.{part, turned-part}
+use Rattle.aes_blocks.specs.Tables.{part, MixTable}
+use Rattle.aes_blocks.proofs.Columns.{turned-part}
 use Rattle.aes_blocks.proofs.tables.turn_tables.Statement.{statement}
 use Rattle.aes_blocks.proofs.tables.turn_tables.Tie as tie
 

@@ -1,0 +1,81 @@
+use mathlib.Core.Path.{_≡_, ap, _∙_}
+use Prim.Native.Nat.{ℕ, _-_, _≤_, _<_}
+use native.Mathlib.Omega.{arith}
+use borrow.Author.Count.{below-none}
+use borrow.Author.Needs.{needs}
+use lib.ListN.{length, getD, length-set}
+use Rattle.bits.specs.Words.{leBytes}
+use Rattle.bits.proofs.Lists.{filled}
+use Rattle.fips197.specs.Cipher.{mixRow}
+use Rattle.aes.specs.Columns.{mixed}
+use Rattle.aes_blocks.specs.Tables.{part}
+use Rattle.aes_blocks.proofs.Columns.{first-part, first-rule}
+use Rattle.aes_blocks.proofs.tables.mix_table.Statement.{statement}
+use Rattle.aes_blocks.proofs.tables.mix_table.Tie as tie
+
+abbrev Inv-loop : tie.InvT-loop
+Inv-loop t r₀ i₀ r i =
+    (i ≤ 256) × (length r ≡ 1024) × ((k : ℕ) → k < i → leBytes 4 (getD r k 0) ≡ part mixRow (getD t k 0) 0)
+
+abbrev μ-loop : tie.MeasureT-loop
+μ-loop t r₀ i₀ r i = 256 - i
+
+loop-holds : tie.Need-loop-holds Inv-loop μ-loop
+loop-holds c = (search needs, search needs, below-none _)
+
+element-copy-out-wide : tie.Need-element-copy-out-wide Inv-loop μ-loop
+element-copy-out-wide c = search needs
+
+wide-requires : tie.Need-wide-requires Inv-loop μ-loop
+wide-requires c κs = search needs
+
+mix-column-requires : tie.Need-mix-column-requires Inv-loop μ-loop
+mix-column-requires c κs = search needs
+
+mul-r : tie.Need-mul-r Inv-loop μ-loop
+mul-r c = search needs
+
+element-write-r : tie.Need-element-write-r Inv-loop μ-loop
+element-write-r c = search needs
+
+add-i : tie.Need-add-i Inv-loop μ-loop
+add-i c = search needs
+
+loop-less : tie.Need-loop-less Inv-loop μ-loop
+loop-less c = search needs
+
+loop-again : tie.Need-loop-again Inv-loop μ-loop
+loop-again c =
+    let at-loop = c .before .before .before .before in
+    let t = at-loop .before .args .t .now in
+    let r = at-loop .loop .r in
+    let i = at-loop .loop .i in
+    let x = c .mix-column .result in
+    let e = c .before .wide .ensures in (
+      omega arith,
+      length-set r i x ∙ at-loop .loop .inv .1,
+      filled (λ k y. leBytes 4 y ≡ part mixRow (getD t k 0) 0) r i x (omega (arith, at-loop .loop .inv .1)) (at-loop .loop .inv .2)
+          (c .mix-column .ensures ∙ ap (λ (s : ℕ). mixed mixRow (leBytes 4 s)) (e .0) ∙ first-part mixRow (getD t i 0) (omega (arith, e .0, e .1))),
+    )
+
+returns : tie.Need-returns Inv-loop μ-loop
+returns c =
+    let loop = c .before .loop in
+    (loop .inv .1, λ f rule k h. loop .inv .2 k (omega arith) ∙ first-rule mixRow f k _ h (rule k h))
+
+pub mix-table-spec : {M : Type 1} → statement M
+mix-table-spec =
+    tie.close
+    (tie.spec
+    Inv-loop
+    μ-loop
+    loop-holds
+    element-copy-out-wide
+    wide-requires
+    mix-column-requires
+    mul-r
+    element-write-r
+    add-i
+    loop-less
+    loop-again
+    returns)
