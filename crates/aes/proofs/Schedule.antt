@@ -28,13 +28,15 @@ rounds-few Aes128 = (lit≤ tt, lit≤ tt)
 rounds-few Aes256 = (lit≤ tt, lit≤ tt)
 
 -- the cipher reads its schedule and not the words past it
-module _ (size : KeySize) (w b : List ℕ) where
-  pub cipher-schedule : cipher (leWords 4 w) (nr size) b ≡ cipher (schedule size w) (nr size) b
+module _ (size : KeySize) (w : List ℕ) {n : ℕ} (e : n ≡ nr size) (b : List ℕ) where
+  pub cipher-schedule : cipher (leWords 4 w) n b ≡ cipher (schedule size w) (nr size) b
   cipher-schedule =
-      sym (cipher-take (4 * (4 * (nk size + 7))) (leWords 4 w) (nr size) b (omega arith))
+      ap (λ (m : ℕ). cipher (leWords 4 w) m b) e
+      ∙ sym (cipher-take (4 * (4 * (nk size + 7))) (leWords 4 w) (nr size) b (omega arith))
       ∙ ap (λ (l : List ℕ). cipher l (nr size) b) (sym (words-take 4 (4 * (nk size + 7)) w))
 
-  pub inv-cipher-schedule : invCipher (leWords 4 w) (nr size) b ≡ invCipher (schedule size w) (nr size) b
+  pub inv-cipher-schedule : invCipher (leWords 4 w) n b ≡ invCipher (schedule size w) (nr size) b
   inv-cipher-schedule =
-      sym (inv-cipher-take (4 * (4 * (nk size + 7))) (leWords 4 w) (nr size) b (omega arith))
+      ap (λ (m : ℕ). invCipher (leWords 4 w) m b) e
+      ∙ sym (inv-cipher-take (4 * (4 * (nk size + 7))) (leWords 4 w) (nr size) b (omega arith))
       ∙ ap (λ (l : List ℕ). invCipher l (nr size) b) (sym (words-take 4 (4 * (nk size + 7)) w))

@@ -54,6 +54,11 @@ module _ (f : List ℕ → List ℕ) (size : (b : List ℕ) → length (f b) ≡
       ∙ sym (map-blocks-more n s h)
       ∙ ap (λ (m : ℕ). mapBlocks f m s) (sym (add-one n))
 
-pub map-blocks-ext : (f g : List ℕ → List ℕ) → ((b : List ℕ) → f b ≡ g b) → (n : ℕ) (s : List ℕ) → mapBlocks f n s ≡ mapBlocks g n s
-map-blocks-ext f g e zero s = refl
-map-blocks-ext f g e (suc n) s = ap₂ (λ (x y : List ℕ). x ++ y) (e (take 16 s)) (map-blocks-ext f g e n (drop 16 s))
+map-blocks-ext : {f g : List ℕ → List ℕ} → ((b : List ℕ) → f b ≡ g b) → (n : ℕ) (s : List ℕ) → mapBlocks f n s ≡ mapBlocks g n s
+map-blocks-ext e zero s = refl
+map-blocks-ext e (suc n) s = ap₂ (λ (x y : List ℕ). x ++ y) (e (take 16 s)) (map-blocks-ext e n (drop 16 s))
+
+-- the end of such a loop, with what its function means
+pub map-blocks-all : {f g : List ℕ → List ℕ} → ((b : List ℕ) → f b ≡ g b) → (i n : ℕ) (s : List ℕ) {l : List ℕ} → i ≡ n → l ≡ mapBlocks f i s
+    → l ≡ mapBlocks g n s
+map-blocks-all {f} {g} same i n s e inv = inv ∙ map-blocks-ext same i s ∙ ap (λ (m : ℕ). mapBlocks g m s) e

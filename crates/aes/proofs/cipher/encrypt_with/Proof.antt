@@ -1,8 +1,5 @@
-use mathlib.Core.Path.{ap, _∙_}
-use Prim.Native.Nat.{ℕ}
+use mathlib.Core.Path.{_∙_}
 use native.Mathlib.Omega.{arith}
-use Rattle.bits.specs.Words.{leWords}
-use Rattle.fips197.specs.Cipher.{cipher}
 use Rattle.aes.specs.Form.{bytesOf}
 use Rattle.aes.proofs.Schedule.{rounds-few, cipher-schedule}
 use borrow.Author.Needs.{needs}
@@ -21,10 +18,7 @@ cipher-rounds-requires c κs =
 returns : tie.Need-returns
 returns c =
     let st = c .before .before in
-    let w = st .args .w .now in
-    c .cipher-rounds .ensures
-    ∙ ap (λ (n : ℕ). cipher (leWords 4 w) n (bytesOf (st .args .b))) (c .before .rounds .ensures)
-    ∙ cipher-schedule (st .args .size) w (bytesOf (st .args .b))
+    c .cipher-rounds .ensures ∙ cipher-schedule (st .args .size) (st .args .w .now) (c .before .rounds .ensures) (bytesOf (st .args .b))
 
 pub encrypt-with-spec : {M : Type 1} → statement M
 encrypt-with-spec = tie.close (tie.spec rounds-requires cipher-rounds-requires returns)
