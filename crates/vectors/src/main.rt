@@ -1,9 +1,11 @@
 // FIPS 197's examples through the proved code: a line for each, with the bytes that were computed.
+ghost use Prim.Native.Nat.{_<_};
 use aes::Block;
+use aes::Key;
 use aes::KeySize;
 use aes::word::block_at;
-use aes::word::from_bytes;
 use aes::word::key_from_bytes;
+use aes::word::to_bytes;
 use libc::STDOUT_FILENO;
 
 fn print(text: &[u8]) {
@@ -23,6 +25,16 @@ fn print_block(b: Block) {
     print_word(b.d);
 }
 
+fn print_blocks(bytes: &[u8]) {
+    let n = bytes.len() / 16;
+    let mut i: usize = 0;
+    while i < n {
+        let at = 16 * i;
+        print_block(block_at(bytes, at));
+        i += 1;
+    }
+}
+
 // The schedule's words: those of one round key more than there are rounds.
 fn print_schedule(w: [u32; 60], rounds: usize) {
     let mut i: usize = 0;
@@ -35,41 +47,68 @@ fn print_schedule(w: [u32; 60], rounds: usize) {
     }
 }
 
-fn expand(name: &[u8], size: KeySize, key: [u8; 32]) {
-    print(b"expand ");
-    print(name);
-    print_schedule(
-        aes_key::key_expansion(size, key_from_bytes(key)),
-        aes::cipher::rounds(size),
-    );
-    print(b"\n");
-}
-
 fn start(what: &[u8], name: &[u8]) {
     print(what);
     print(name);
     print(b" ");
 }
 
-// Both directions: the block that was computed is then deciphered.
-fn cipher(name: &[u8], size: KeySize, key: [u8; 32], plaintext: [u8; 16]) {
-    let w = aes_key::key_expansion(size, key_from_bytes(key));
-    let c = aes::cipher::encrypt_block(size, &w, from_bytes(plaintext));
-    start(b"encrypt ", name);
-    print_block(c);
-    start(b"\ndecrypt ", name);
-    print_block(aes::inv_cipher::decrypt_block(size, &w, c));
+// The value of a hexadecimal digit.
+fn digit(c: u8) -> u8
+    ensures { λ r. ⌜ r < 16 ⌝ }
+{
+    if 97 <= c {
+        return (c - 87) % 16;
+    }
+    c % 16
+}
+
+// The byte that two digits stand for, and 0 past the end.
+fn byte_at(text: &[u8], at: usize) -> u8 {
+    if at < text.len() {
+        if at + 1 < text.len() {
+            return digit(text[at]) * 16 + digit(text[at + 1]);
+        }
+        return 0;
+    }
+    0
+}
+
+// A key of up to 32 bytes from hexadecimal digits, filled with zeros.
+fn key_of(text: &[u8]) -> Key {
+    let mut bytes = [0u8; 32];
+    let mut i: usize = 0;
+    while i < 32 {
+        let x = byte_at(text, 2 * i);
+        bytes[i] = x;
+        i += 1;
+    }
+    key_from_bytes(bytes)
+}
+
+// A block, which is half a key.
+fn block_of(text: &[u8]) -> Block {
+    key_of(text).low
+}
+
+fn expand(name: &[u8], size: KeySize, key: &[u8]) {
+    print(b"expand ");
+    print(name);
+    print_schedule(
+        aes_key::key_expansion(size, key_of(key)),
+        aes::cipher::rounds(size),
+    );
     print(b"\n");
 }
 
-fn print_blocks(bytes: &[u8]) {
-    let n = bytes.len() / 16;
-    let mut i: usize = 0;
-    while i < n {
-        let at = 16 * i;
-        print_block(block_at(bytes, at));
-        i += 1;
-    }
+// One block, in both directions: what was computed is then deciphered.
+fn cipher_one(name: &[u8], size: KeySize, w: &[u32; 60], plaintext: Block) {
+    let c = aes::cipher::encrypt_block(size, w, plaintext);
+    start(b"encrypt ", name);
+    print_block(c);
+    start(b"\ndecrypt ", name);
+    print_block(aes::inv_cipher::decrypt_block(size, w, c));
+    print(b"\n");
 }
 
 fn eight_times(block: [u8; 16]) -> [u8; 128] {
@@ -83,199 +122,38 @@ fn eight_times(block: [u8; 16]) -> [u8; 128] {
 }
 
 // The block eight times, through the tables.
-fn cipher_eight(name: &[u8], size: KeySize, key: [u8; 32], plaintext: [u8; 16]) {
-    let w = aes_key::key_expansion(size, key_from_bytes(key));
-    let mut bytes = eight_times(plaintext);
-    aes_blocks::encrypt_blocks(size, &w, &mut bytes);
+fn cipher_eight(name: &[u8], size: KeySize, w: &[u32; 60], plaintext: Block) {
+    let mut bytes = eight_times(to_bytes(plaintext));
+    aes_blocks::encrypt_blocks(size, w, &mut bytes);
     start(b"encrypt8 ", name);
     print_blocks(&bytes);
-    aes_blocks::decrypt_blocks(size, &w, &mut bytes);
+    aes_blocks::decrypt_blocks(size, w, &mut bytes);
     start(b"\ndecrypt8 ", name);
     print_blocks(&bytes);
     print(b"\n");
 }
 
-fn both(name: &[u8], size: KeySize, key: [u8; 32], plaintext: [u8; 16]) {
-    cipher(name, size, key, plaintext);
-    cipher_eight(name, size, key, plaintext);
+fn cipher(name: &[u8], size: KeySize, key: &[u8], plaintext: &[u8]) {
+    let w = aes_key::key_expansion(size, key_of(key));
+    let b = block_of(plaintext);
+    cipher_one(name, size, &w, b);
+    cipher_eight(name, size, &w, b);
 }
 
 fn main() {
-    let a1 = [
-        0x2b,
-        0x7e,
-        0x15,
-        0x16,
-        0x28,
-        0xae,
-        0xd2,
-        0xa6,
-        0xab,
-        0xf7,
-        0x15,
-        0x88,
-        0x09,
-        0xcf,
-        0x4f,
-        0x3c,
-        0x00,
-        0x00,
-        0x00,
-        0x00,
-        0x00,
-        0x00,
-        0x00,
-        0x00,
-        0x00,
-        0x00,
-        0x00,
-        0x00,
-        0x00,
-        0x00,
-        0x00,
-        0x00,
-    ];
-    let a3 = [
-        0x60,
-        0x3d,
-        0xeb,
-        0x10,
-        0x15,
-        0xca,
-        0x71,
-        0xbe,
-        0x2b,
-        0x73,
-        0xae,
-        0xf0,
-        0x85,
-        0x7d,
-        0x77,
-        0x81,
-        0x1f,
-        0x35,
-        0x2c,
-        0x07,
-        0x3b,
-        0x61,
-        0x08,
-        0xd7,
-        0x2d,
-        0x98,
-        0x10,
-        0xa3,
-        0x09,
-        0x14,
-        0xdf,
-        0xf4,
-    ];
-    let c1 = [
-        0x00,
-        0x01,
-        0x02,
-        0x03,
-        0x04,
-        0x05,
-        0x06,
-        0x07,
-        0x08,
-        0x09,
-        0x0a,
-        0x0b,
-        0x0c,
-        0x0d,
-        0x0e,
-        0x0f,
-        0x00,
-        0x00,
-        0x00,
-        0x00,
-        0x00,
-        0x00,
-        0x00,
-        0x00,
-        0x00,
-        0x00,
-        0x00,
-        0x00,
-        0x00,
-        0x00,
-        0x00,
-        0x00,
-    ];
-    let c3 = [
-        0x00,
-        0x01,
-        0x02,
-        0x03,
-        0x04,
-        0x05,
-        0x06,
-        0x07,
-        0x08,
-        0x09,
-        0x0a,
-        0x0b,
-        0x0c,
-        0x0d,
-        0x0e,
-        0x0f,
-        0x10,
-        0x11,
-        0x12,
-        0x13,
-        0x14,
-        0x15,
-        0x16,
-        0x17,
-        0x18,
-        0x19,
-        0x1a,
-        0x1b,
-        0x1c,
-        0x1d,
-        0x1e,
-        0x1f,
-    ];
-    let b = [
-        0x32,
-        0x43,
-        0xf6,
-        0xa8,
-        0x88,
-        0x5a,
-        0x30,
-        0x8d,
-        0x31,
-        0x31,
-        0x98,
-        0xa2,
-        0xe0,
-        0x37,
-        0x07,
-        0x34,
-    ];
-    let c = [
-        0x00,
-        0x11,
-        0x22,
-        0x33,
-        0x44,
-        0x55,
-        0x66,
-        0x77,
-        0x88,
-        0x99,
-        0xaa,
-        0xbb,
-        0xcc,
-        0xdd,
-        0xee,
-        0xff,
-    ];
+    let a1 = b"2b7e151628aed2a6abf7158809cf4f3c";
+    let a3 = b"603deb1015ca71be2b73aef0857d77811f352c073b6108d72d9810a30914dff4";
+    let c1 = b"000102030405060708090a0b0c0d0e0f";
+    let c3 = b"000102030405060708090a0b0c0d0e0f101112131415161718191a1b1c1d1e1f";
+    let c = b"00112233445566778899aabbccddeeff";
     expand(b"A.1", KeySize::Aes128, a1);
     expand(b"A.3", KeySize::Aes256, a3);
-    both(b"B", KeySize::Aes128, a1, b);
-    both(b"C.1", KeySize::Aes128, c1, c);
-    both(b"C.3", KeySize::Aes256, c3, c);
+    cipher(
+        b"B",
+        KeySize::Aes128,
+        a1,
+        b"3243f6a8885a308d313198a2e0370734",
+    );
+    cipher(b"C.1", KeySize::Aes128, c1, c);
+    cipher(b"C.3", KeySize::Aes256, c3, c);
 }
