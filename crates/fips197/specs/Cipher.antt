@@ -30,6 +30,7 @@ mixBy q s = state (λ r c. matrixRow q r (at s 0 c) (at s 1 c) (at s 2 c) (at s 
 abbrev pub mixRow : List ℕ
 mixRow = 0x02 ∷ 0x03 ∷ 0x01 ∷ 0x01 ∷ []
 
+-- 5.1.3
 unfoldable pub mixColumns : List ℕ → List ℕ
 mixColumns s = mixBy mixRow s
 
@@ -37,13 +38,14 @@ mixColumns s = mixBy mixRow s
 unfoldable pub addRoundKey : List ℕ → List ℕ → List ℕ
 addRoundKey s k = state (λ r c. add (at s r c) (at k r c))
 
+-- 5.1, figure 5: a round, and the final round, which has no MixColumns
 unfoldable pub round : List ℕ → List ℕ → List ℕ
 round s k = addRoundKey (mixColumns (shiftRows (subBytes s))) k
 
 unfoldable pub finalRound : List ℕ → List ℕ → List ℕ
 finalRound s k = addRoundKey (shiftRows (subBytes s)) k
 
--- rounds 1 to n
+-- 5.1, figure 5: rounds 1 to n
 unfoldable pub rounds : List ℕ → ℕ → List ℕ → List ℕ
 rounds w zero s = s
 rounds w (suc n) s = round (rounds w n s) (roundKey w (n + 1))

@@ -19,17 +19,19 @@ invSubBytes s = state (λ r c. invSbox (at s r c))
 abbrev pub invMixRow : List ℕ
 invMixRow = 0x0e ∷ 0x0b ∷ 0x0d ∷ 0x09 ∷ []
 
+-- 5.3.3
 unfoldable pub invMixColumns : List ℕ → List ℕ
 invMixColumns s = mixBy invMixRow s
 
--- the last round of the inverse cipher, which has no InvMixColumns
+-- 5.3, figure 12: the last round, which has no InvMixColumns
 unfoldable pub invFinalRound : List ℕ → List ℕ → List ℕ
 invFinalRound s k = addRoundKey (invSubBytes (invShiftRows s)) k
 
+-- 5.3, figure 12: a round
 unfoldable pub invRound : List ℕ → List ℕ → List ℕ
 invRound s k = invMixColumns (invFinalRound s k)
 
--- rounds n down to 1
+-- 5.3, figure 12: rounds n down to 1
 unfoldable pub invRounds : List ℕ → ℕ → List ℕ → List ℕ
 invRounds w zero s = s
 invRounds w (suc n) s = invRounds w n (invRound s (roundKey w (n + 1)))

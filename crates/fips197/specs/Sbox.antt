@@ -6,6 +6,7 @@ use Prim.Native.Nat.{ℕ, _+_, _*_, _/_, _%_, _^_, _<_}
 use lib.ListN.{getD}
 use Rattle.fips197.specs.Field.{multiply}
 
+-- 4.2: powers of a byte, on the way to its inverse
 unfoldable pub square : ℕ → ℕ
 square a = multiply a a
 
@@ -18,7 +19,7 @@ next a p = multiply a (square p)
 unfoldable pub inverse : ℕ → ℕ
 inverse a = square (next a (next a (next a (next a (next a (next a a))))))
 
--- bit i of a byte, i counted modulo 8
+-- 3.2: bit i of a byte, i counted modulo 8
 unfoldable pub bit : ℕ → ℕ → ℕ
 bit b i = b / 2 ^ (i % 8) % 2
 
@@ -43,6 +44,6 @@ invAffine b = fromBits (λ i. bit b (i + 2) + bit b (i + 5) + bit b (i + 7) + bi
 unfoldable pub invSbox : ℕ → ℕ
 invSbox b = inverse (invAffine b)
 
--- a table has f of each byte at that byte's place
+-- 5.1.1, figure 7, and 5.3.2, figure 14: a table has f of each byte at that byte's place
 abbrev pub TableOf : (ℕ → ℕ) → List ℕ → Type 0
 TableOf f t = (b : ℕ) → b < 256 → getD t b 0 ≡ f b

@@ -4,10 +4,11 @@ use mathlib.Core.List.{List, [], _∷_}
 use Prim.Native.Nat.{ℕ, _+_, _*_}
 use lib.ListN.{getD}
 
+-- the byte in row r and column c
 abbrev pub at : List ℕ → ℕ → ℕ → ℕ
 at s r c = getD s (r + 4 * c) 0
 
--- four bytes
+-- 3.5: a word is four bytes, as a column is
 abbrev pub word : (ℕ → ℕ) → List ℕ
 word f = f 0 ∷ f 1 ∷ f 2 ∷ f 3 ∷ []
 

@@ -1,3 +1,5 @@
+-- As without tables: the state is what the rounds before i make; the measure is the rounds left.
+-- Assumes nothing.
 use mathlib.Core.Path.{_≡_, refl}
 use Prim.Native.Nat.{_-_, _≤_}
 use native.Mathlib.Omega.{arith}

@@ -1,3 +1,5 @@
+-- As without tables; a round is that of the equivalent inverse cipher.
+-- Assumes nothing.
 use mathlib.Core.Path.{_≡_, refl}
 use Prim.Native.Nat.{_-_, _<_}
 use native.Mathlib.Omega.{arith}

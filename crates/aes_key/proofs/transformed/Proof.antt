@@ -1,3 +1,5 @@
+-- One law for each of the three ways to a word.
+-- Assumes nothing.
 use mathlib.Core.Path.{sym, ap, ap₂, _∙_}
 use mathlib.Core.Bool.{_&&_}
 use lib.Dec.{eqb, ltb}

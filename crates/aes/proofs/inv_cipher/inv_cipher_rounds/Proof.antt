@@ -1,3 +1,5 @@
+-- The rounds from i down, of the state, are all rounds of the first state; the measure is i.
+-- Assumes nothing.
 use mathlib.Core.Path.{_≡_, refl}
 use Prim.Native.Nat.{_-_, _<_}
 use native.Mathlib.Omega.{arith}

@@ -1,3 +1,5 @@
+-- Each product is taken in the 64-bit word; its halves are the terms of the two columns.
+-- Assumes nothing.
 use mathlib.Core.Path.{_∙_}
 use Rattle.aes.proofs.Staggered.{inv-mixes-pair}
 use borrow.Author.Needs.{needs}

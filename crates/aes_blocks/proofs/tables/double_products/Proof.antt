@@ -1,3 +1,5 @@
+-- The products below i are right: the first k were, and each new one is the sum of two. The measure is what is left up to 2 k.
+-- Assumes nothing.
 use mathlib.Core.Path.{_≡_, _∙_}
 use mathlib.Core.List.{List}
 use Prim.Native.Nat.{ℕ, _-_, _*_, _^_, _≤_}

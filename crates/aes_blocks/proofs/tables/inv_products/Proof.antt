@@ -1,3 +1,5 @@
+-- The products below k, the e-th power of two, are right; the measure is the doublings left.
+-- Assumes nothing.
 use mathlib.Core.Path.{_≡_, refl, _∙_}
 use Prim.Native.Nat.{ℕ, _-_, _^_, _≤_, _<_}
 use native.Mathlib.Omega.{arith}

@@ -1,3 +1,5 @@
+-- The entries below i are right whatever rule the first table has; the measure is the entries left.
+-- Assumes nothing.
 use mathlib.Core.Path.{_≡_, _∙_}
 use mathlib.Core.List.{List}
 use Prim.Native.Nat.{ℕ, _-_, _/_, _%_, _≤_}
