@@ -47,7 +47,7 @@ pub fn round_key(w: &[u32; 60], n: usize) -> Block
 }
 
 // SubBytes, then ShiftRows: each byte is looked up at the place from which it moves.
-pub fn sub_shift(t: &[u8; 256], s: Block) -> Block
+fn sub_shift(t: &[u8; 256], s: Block) -> Block
     requires { ⌜ TableOf sbox (now t) ⌝ }
     ensures { λ r. ⌜ bytesOf r ≡ shiftRows (subBytes (bytesOf s)) ⌝ }
 {

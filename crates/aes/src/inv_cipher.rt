@@ -15,7 +15,7 @@ use crate::word::sub_diagonal;
 use sbox::inverse::inverse_table;
 
 // InvShiftRows, then InvSubBytes: each byte is looked up at the place from which it moves.
-pub fn inv_shift_sub(t: &[u8; 256], s: Block) -> Block
+fn inv_shift_sub(t: &[u8; 256], s: Block) -> Block
     requires { ⌜ TableOf invSbox (now t) ⌝ }
     ensures { λ r. ⌜ bytesOf r ≡ invSubBytes (invShiftRows (bytesOf s)) ⌝ }
 {
