@@ -18,7 +18,7 @@ bench: build/bench
 	./build/bench
 
 build/bench: $(BENCH:%=build/%.o) $(LIBRARY)
-	$(CC) $(CFLAGS) -o $@ $^
+	$(CC) $(CFLAGS) -o $@ $^ -lm
 
 build/%.o: bench/%.c bench/aes_baseline.h
 	@mkdir -p build

@@ -315,6 +315,39 @@ static void print_bar(const struct bar *bar, const struct row *rows, size_t coun
     printf("AES-%d %s\n", key_bits(worst->size), op_names[worst->op]);
 }
 
+// The key schedule's bar is against figure 11 as FIPS 197 prints it. There is a faster byte-wise form,
+// and the proved one is not 0.6 of that: so both are shown.
+static double key_expansion_ns(void (*expand)(uint8_t, const uint8_t *, uint32_t *), uint8_t size)
+{
+    uint8_t key[32];
+    uint32_t w[60], first[60];
+    fill_random(key, sizeof key);
+    bytes_key_expansion(size, key, first);
+    expand(size, key, w);
+    require(memcmp(w, first, 16 * (rounds_of(size) + 1)) == 0, &cores[BYTES], size, KEY_SCHEDULE, sizeof key, "forms differ");
+    double best = INFINITY;
+    for (int run = 0; run < 15; run++) {
+        struct timespec a, b;
+        clock_gettime(CLOCK_MONOTONIC, &a);
+        for (int i = 0; i < 30000; i++) {
+            expand(size, key, w);
+            key[0] = (uint8_t)w[4];
+        }
+        clock_gettime(CLOCK_MONOTONIC, &b);
+        best = fmin(best, ((double)(b.tv_sec - a.tv_sec) * 1e9 + (double)(b.tv_nsec - a.tv_nsec)) / 30000);
+    }
+    return best;
+}
+
+static void print_grouped(void)
+{
+    for (uint8_t size = 0; size < 2; size++) {
+        double ours = key_expansion_ns(aes_key_expansion, size), grouped = key_expansion_ns(bytes_key_expansion_grouped, size);
+        printf("AES-%d key schedule against the byte-wise one in groups, without figure 11's mod: %.1f to %.1f ns, %.2f\n",
+               key_bits(size), ours, grouped, ours / grouped);
+    }
+}
+
 int main(void)
 {
     static const size_t blocks[] = {1, 8, 4096};
@@ -337,5 +370,6 @@ int main(void)
     puts("");
     for (size_t i = 0; i < sizeof bars / sizeof *bars; i++)
         print_bar(&bars[i], rows, count);
+    print_grouped();
     return 0;
 }

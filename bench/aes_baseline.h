@@ -35,6 +35,7 @@ static inline uint8_t gf_mul(uint8_t a, uint8_t b)
 
 // Byte by byte. w is bytes in the order of FIPS 197, in the memory of the words.
 void bytes_key_expansion(uint8_t size, const uint8_t key[32], uint32_t w[60]);
+void bytes_key_expansion_grouped(uint8_t size, const uint8_t key[32], uint32_t w[60]);
 void bytes_encrypt_block(uint8_t size, const uint32_t w[60], uint8_t block[16]);
 void bytes_decrypt_block(uint8_t size, const uint32_t w[60], uint8_t block[16]);
 void bytes_encrypt_blocks(uint8_t size, const uint32_t w[60], uint8_t *data, size_t len);

@@ -168,8 +168,7 @@ void bytes_decrypt_blocks(uint8_t size, const uint32_t w[60], uint8_t *data, siz
 
 static inline struct column rot_word(struct column t) { return (struct column){t.b, t.c, t.d, t.a}; }
 
-// FIPS 197, figure 11, word for word. (Without its `mod`, in groups of nk words, gcc 12 makes this
-// nearly twice as fast; the T-table core's key expansion is written so.)
+// FIPS 197, figure 11, word for word, with its `mod`.
 void bytes_key_expansion(uint8_t size, const uint8_t key[32], uint32_t words[60])
 {
     unsigned nk = key_words_of(size), end = 4 * (rounds_of(size) + 1);
@@ -185,5 +184,24 @@ void bytes_key_expansion(uint8_t size, const uint8_t key[32], uint32_t words[60]
             t = sub_column(sbox, t);
         }
         store_column(w + 4 * i, add_column(t, w + 4 * (i - nk)));
+    }
+}
+
+// The same in groups of nk words, without the division: nearly twice as fast with gcc 12.
+void bytes_key_expansion_grouped(uint8_t size, const uint8_t key[32], uint32_t words[60])
+{
+    unsigned group = 4 * key_words_of(size), end = 16 * (rounds_of(size) + 1);
+    uint8_t *w = (uint8_t *)words, rcon = 1;
+    memcpy(w, key, group);
+    struct column t = load_column(w + group - 4);
+    for (unsigned i = group; i < end; i += group, rcon = xtime(rcon)) {
+        t = sub_column(sbox, rot_word(t));
+        t.a ^= rcon;
+        for (unsigned j = 0; j < group && i + j < end; j += 4) {
+            if (j == 16)
+                t = sub_column(sbox, t);
+            t = add_column(t, w + i + j - group);
+            store_column(w + i + j, t);
+        }
     }
 }
