@@ -6,8 +6,10 @@ use Rattle.fips197.specs.Cipher.{cipher}
 use Rattle.fips197.specs.InvCipher.{invCipher}
 use Rattle.fips197.specs.KeyExpansion.{keyExpansion}
 
+-- 5.1: a block enciphered under a key
 unfoldable pub encrypt : ℕ → List ℕ → List ℕ → List ℕ
 encrypt nk key b = cipher (keyExpansion nk key) (nk + 6) b
 
+-- 5.3: a block deciphered under a key
 unfoldable pub decrypt : ℕ → List ℕ → List ℕ → List ℕ
 decrypt nk key b = invCipher (keyExpansion nk key) (nk + 6) b

@@ -22,7 +22,7 @@ matrixRow q r s0 s1 s2 s3 =
     add (add (add (multiply s0 (getD q ((4 - r) % 4) 0)) (multiply s1 (getD q ((5 - r) % 4) 0))) (multiply s2 (getD q ((6 - r) % 4) 0)))
     (multiply s3 (getD q ((7 - r) % 4) 0))
 
--- every column times that matrix
+-- 5.1.3 and 5.3.3: every column times that matrix
 unfoldable pub mixBy : List ℕ → List ℕ → List ℕ
 mixBy q s = state (λ r c. matrixRow q r (at s 0 c) (at s 1 c) (at s 2 c) (at s 3 c))
 

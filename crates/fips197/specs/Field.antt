@@ -11,7 +11,7 @@ add a b = bitXor a b
 unfoldable pub xtime : ℕ → ℕ
 xtime b = add (b * 2 % 256) (b / 128 * 0x1b)
 
--- a added where the bit is 1
+-- 4.2.1: a added where the bit is 1
 abbrev pub addIf : ℕ → ℕ → ℕ → ℕ
 addIf zero a r = r
 addIf (suc bit) a r = add r a

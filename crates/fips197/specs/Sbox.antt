@@ -10,7 +10,7 @@ use Rattle.fips197.specs.Field.{multiply}
 unfoldable pub square : ℕ → ℕ
 square a = multiply a a
 
--- from a^(2^k - 1) to a^(2^(k+1) - 1)
+-- 4.2: from a^(2^k - 1) to a^(2^(k+1) - 1)
 unfoldable pub next : ℕ → ℕ → ℕ
 next a p = multiply a (square p)
 
@@ -23,7 +23,7 @@ inverse a = square (next a (next a (next a (next a (next a (next a a))))))
 unfoldable pub bit : ℕ → ℕ → ℕ
 bit b i = b / 2 ^ (i % 8) % 2
 
--- the byte whose bit i is the parity of f i
+-- 3.2: the byte whose bit i is the parity of f i
 unfoldable pub fromBits : (ℕ → ℕ) → ℕ
 fromBits f =
     f 0 % 2 + f 1 % 2 * 2 + f 2 % 2 * 4 + f 3 % 2 * 8 + f 4 % 2 * 16 + f 5 % 2 * 32 + f 6 % 2 * 64 + f 7 % 2 * 128
