@@ -10,7 +10,8 @@ use Rattle.bits.specs.Words.{leBytes}
 use Rattle.bits.proofs.Lists.{cons, list4}
 use Rattle.bits.proofs.Words.{le-xor}
 use Rattle.bits.proofs.Xor.{xor-assoc}
-use Rattle.fips197.specs.Field.{multiply, multiplyBits}
+use Rattle.bits.specs.Polynomials.{multiplyBits}
+use Rattle.fips197.specs.Field.{multiply}
 use Rattle.fips197.specs.Cipher.{matrixRow, mixRow}
 use Rattle.fips197.specs.InvCipher.{invMixRow}
 use Rattle.fips197.specs.KeyExpansion.{rotWord}
@@ -57,7 +58,7 @@ abbrev Times : ℕ → ℕ → ℕ → ℕ → Type 0
 Times n k x y = leBytes n y ≡ scaled k (leBytes n x)
 
 by-one : (n x : ℕ) → Times n 1 x x
-unfolding scaled multiply multiplyBits
+unfolding scaled multiplyBits
 by-one n x = sym (map-id (leBytes n x))
 
 sum : (n x p q : ℕ) (f g : ℕ → ℕ) → leBytes n p ≡ map f (leBytes n x) → leBytes n q ≡ map g (leBytes n x)
@@ -71,7 +72,7 @@ record Products (n x x2 x4 x8 : ℕ) : Type 0 where
   by9 : Times n 9 x (bitXor x8 x)
 
 products : (n x x2 x4 x8 : ℕ) → Times n 2 x x2 → Times n 2 x2 x4 → Times n 2 x4 x8 → Products n x x2 x4 x8
-unfolding scaled multiply multiplyBits
+unfolding scaled multiplyBits
 products n x x2 x4 x8 e f g =
     let l = leBytes n x in
     let by : ℕ → ℕ → ℕ = λ k b. multiply b k in
@@ -88,7 +89,7 @@ products n x x2 x4 x8 e f g =
     }
 
 pub mixes : (x x2 : ℕ) → Times 4 2 x x2 → staggered (leBytes 4 x2) (leBytes 4 (bitXor x2 x)) (leBytes 4 x) (leBytes 4 x) ≡ mixed mixRow (leBytes 4 x)
-unfolding scaled multiply multiplyBits
+unfolding scaled multiplyBits
 mixes x x2 e = product 2 3 1 1 x e (sum 4 x x2 x (λ b. multiply b 2) (λ b. b) e (by-one 4 x)) (by-one 4 x) (by-one 4 x)
 
 pub inv-mixes : (x x2 x4 x8 : ℕ) → Times 4 2 x x2 → Times 4 2 x2 x4 → Times 4 2 x4 x8

@@ -9,7 +9,8 @@ use lib.Bits.{bitXor, bitAnd, and-mask, and-high, and-shr, and-mod, and-zero-r, 
 use lib.Dec.{lit<}
 use Rattle.bits.specs.Words.{leBytes}
 use Rattle.bits.proofs.Lists.{cons}
-use Rattle.fips197.specs.Field.{xtime, multiply, multiplyBits}
+use Rattle.bits.specs.Polynomials.{multiplyBits}
+use Rattle.fips197.specs.Field.{xtime, multiply}
 use Rattle.aes.specs.Columns.{scaled}
 
 -- the word of n bytes m
@@ -45,7 +46,7 @@ clear n w = and-mod w (mask n 128) 7 ∙ ap (bitAnd (w % 128)) (mask-clear n) �
 
 -- the low seven bits of a byte move up within it, and 27 times its top bit fits it: no byte reaches its neighbour
 spread : (n w : ℕ) → leBytes n (bitXor (bitAnd w (mask n 127) * 2) (bitAnd w (mask n 128) / 128 * 27)) ≡ scaled 2 (leBytes n w)
-unfolding scaled multiply multiplyBits xtime
+unfolding scaled multiplyBits xtime
 spread zero w = refl
 spread (suc n) w =
     let a = bitAnd w (mask (suc n) 127) in

@@ -12,7 +12,8 @@ use Rattle.bits.proofs.Lists.{list4}
 use Rattle.bits.proofs.Words.{le-xor}
 use Rattle.fips197.specs.Field.{multiply}
 use Rattle.fips197.specs.Cipher.{matrixRow}
-use Rattle.fips197.proofs.Field.{multiply-zero, multiply-xor}
+use Rattle.bits.proofs.Field.{zero-times, times-xor}
+use Rattle.fips197.proofs.Field.{gf256}
 use Rattle.aes.specs.Columns.{mixed, diagonal}
 use Rattle.aes_blocks.specs.Tables.{part, Products, MixTable}
 
@@ -21,13 +22,13 @@ pub first-part : (q : List ℕ) (s : ℕ) → s < 256 → mixed q (leBytes 4 s) 
 unfolding mixed matrixRow
 first-part q s h =
     let alone : leBytes 4 s ≡ s ∷ 0 ∷ 0 ∷ 0 ∷ [] = list4 (omega arith) (omega arith) (omega arith) (omega arith) in
-    ap (mixed q) alone ∙ simp (multiply-zero, xor-zero-r)
+    ap (mixed q) alone ∙ simp (zero-times gf256, xor-zero-r)
 
 -- the products with 0
 pub no-products : (q m : List ℕ) → getD m 0 0 ≡ 0 → Products q 1 m
 no-products q m e i h =
     let z : i ≡ 0 = omega arith in
-    ap (λ (j : ℕ). leBytes 4 (getD m j 0)) z ∙ ap (leBytes 4) e ∙ sym (list4 (multiply-zero _) (multiply-zero _) (multiply-zero _) (multiply-zero _))
+    ap (λ (j : ℕ). leBytes 4 (getD m j 0)) z ∙ ap (leBytes 4) e ∙ sym (list4 (zero-times gf256 _) (zero-times gf256 _) (zero-times gf256 _) (zero-times gf256 _))
     ∙ ap (λ (s : ℕ). part q s 0) (sym z)
 
 -- above a power of two, the part of a byte is a sum of two
@@ -38,7 +39,7 @@ sum-part q e {k} {i} x y power few h l ex ey =
     let one : k ≡ 1 * 2 ^ e = omega (arith, power) in
     let whole : k + j ≡ i = omega arith in
     let sum : bitXor j k ≡ i = xor-comm j k ∙ ap (λ (n : ℕ). bitXor n j) one ∙ xor-shifted 1 e j (omega (arith, power)) ∙ ap (λ (n : ℕ). n + j) (sym one) ∙ whole in
-    let row : (c : ℕ) → bitXor (multiply j c) (multiply k c) ≡ multiply (bitXor j k) c = λ c. sym (multiply-xor j k c (omega arith) (omega arith)) in
+    let row : (c : ℕ) → bitXor (multiply j c) (multiply k c) ≡ multiply (bitXor j k) c = λ c. sym (times-xor gf256 j k c (omega arith) (omega arith)) in
     le-xor 4 y x ∙ ap₂ xorBytes ey ex ∙ list4 (row _) (row _) (row _) (row _) ∙ ap (λ (s : ℕ). part q s 0) sum
 
 pub first-rule : (q : List ℕ) (f : ℕ → ℕ) (i s : ℕ) → i < 256 → s ≡ f i → part q s 0 ≡ part q (f (i % 256)) (i / 256)

@@ -7,8 +7,8 @@ use native.Mathlib.Nat.{zero-add, suc-add, add-suc}
 use native.Mathlib.Numerals.{add-one}
 use native.Mathlib.Omega.{arith}
 use lib.ListN.{length, set, take, drop, length-append, length-drop}
-use lib.Seq.{sets, sets-eq, drop-append-add}
-use Rattle.bits.specs.Blocks.{mapBlocks}
+use lib.Seq.{sets, sets-eq, drop-append-add, drop-drop}
+use Rattle.bits.specs.Blocks.{mapBlocks, blocks}
 
 -- stores behind a first part
 set-behind : (p l : List ℕ) (i a : ℕ) → set (p ++ l) (length p + i) a ≡ p ++ set l i a
@@ -62,3 +62,11 @@ map-blocks-ext e (suc n) s = ap₂ (λ (x y : List ℕ). x ++ y) (e (take 16 s))
 pub map-blocks-all : {f g : List ℕ → List ℕ} → ((b : List ℕ) → f b ≡ g b) → (i n : ℕ) (s : List ℕ) {l : List ℕ} → i ≡ n → l ≡ mapBlocks f i s
     → l ≡ mapBlocks g n s
 map-blocks-all {f} {g} same i n s e inv = inv ∙ map-blocks-ext same i s ∙ ap (λ (m : ℕ). mapBlocks g m s) e
+
+-- one block more
+pub blocks-more : (n : ℕ) (s : List ℕ) → blocks (n + 1) s ≡ blocks n s ++ (take 16 (drop (16 * n) s) ∷ [])
+blocks-more zero s = refl
+blocks-more (suc n) s =
+    let e : 16 + 16 * n ≡ 16 * suc n = omega arith in
+    ap (λ (m : ℕ). blocks m s) (suc-add n 1)
+    ∙ ap (λ (l : List (List ℕ)). take 16 s ∷ l) (blocks-more n (drop 16 s) ∙ ap (λ (l : List ℕ). blocks n (drop 16 s) ++ (take 16 l ∷ [])) (drop-drop (16 * n) 16 s ∙ ap (λ (m : ℕ). drop m s) e))

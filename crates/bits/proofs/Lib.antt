@@ -4,3 +4,4 @@ pub mod Table
 pub mod Xor
 pub mod Words
 pub mod Blocks
+pub mod Field

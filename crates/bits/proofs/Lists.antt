@@ -11,7 +11,8 @@ use lib.Dec.{T, eqb, eqb→eq, lit<}
 use lib.ListN.{length, getD, set, take, drop, length-drop, length-append}
 use lib.Seq.{sets, take-add, drop-drop, getD-drop, take-suc, getD-set-same, getD-set-other}
 use borrow.Author.Count.{below-more}
-use Rattle.bits.specs.Bytes.{Bytes}
+use borrow.Author.Tests.{eq-eqb}
+use Rattle.bits.specs.Bytes.{Bytes, alike}
 use Rattle.bits.proofs.Choice.{and-left, and-right}
 
 pub cons : {a b : ℕ} {l m : List ℕ} → a ≡ b → l ≡ m → a ∷ l ≡ b ∷ m
@@ -20,18 +21,15 @@ cons p q = ap₂ (λ (x : ℕ) (y : List ℕ). x ∷ y) p q
 pub list4 : {a b c d a′ b′ c′ d′ : ℕ} → a ≡ a′ → b ≡ b′ → c ≡ c′ → d ≡ d′ → a ∷ b ∷ c ∷ d ∷ [] ≡ a′ ∷ b′ ∷ c′ ∷ d′ ∷ []
 list4 p q r s = cons p (cons q (cons r (cons s refl)))
 
--- a test that two lists are equal, for lists that the checker computes
-abbrev pub alike : List ℕ → List ℕ → Bool
-alike [] [] = true
-alike [] (y ∷ m) = false
-alike (x ∷ l) [] = false
-alike (x ∷ l) (y ∷ m) = eqb x y && alike l m
-
 pub alike-eq : (l m : List ℕ) → T (alike l m) → l ≡ m
 alike-eq [] [] t = refl
 alike-eq [] (y ∷ m) t = absurd t
 alike-eq (x ∷ l) [] t = absurd t
 alike-eq (x ∷ l) (y ∷ m) t = cons (eqb→eq x y (and-left (eqb x y) (alike l m) t)) (alike-eq l m (and-right (eqb x y) (alike l m) t))
+
+pub alike-self : (l : List ℕ) → alike l l ≡ true
+alike-self [] = refl
+alike-self (x ∷ l) = ap₂ (λ (a b : Bool). a && b) (eq-eqb x x refl) (alike-self l)
 
 pub bytes-at : (s : List ℕ) → Bytes s → (i : ℕ) → getD s i 0 < 256
 bytes-at [] h i = lit< tt

@@ -1,11 +1,11 @@
 -- Words and their bytes, over the width: n is the number of bytes.
 -- Assumes nothing.
-use mathlib.Core.Path.{_≡_, refl, sym, ap, _∙_}
+use mathlib.Core.Path.{_≡_, refl, sym, ap, ap₂, subst, _∙_}
 use mathlib.Core.List.{List, [], _∷_, _++_, append-assoc}
-use Prim.Native.Nat.{ℕ, zero, suc, _+_, _*_, _/_, _%_, _<_}
-use native.Mathlib.Nat.{mod-lt, mul-suc}
+use Prim.Native.Nat.{ℕ, zero, suc, _+_, _*_, _/_, _%_, _^_, _<_}
+use native.Mathlib.Nat.{mod-lt, mul-suc, mul-one, one-mul, mul-comm, mul-assoc, add-zero, zero-add, suc-add, pow-suc, div-lt-iff-lt-mul}
 use native.Mathlib.Omega.{arith}
-use lib.Arith.{digits-div, digits-mod}
+use lib.Arith.{digits-div, digits-mod, lt-one}
 use lib.Bits.{bitXor, bitAnd, xor-shr, xor-mod, and-shr, and-mod}
 use lib.Dec.{lit<}
 use lib.ListN.{length, getD, take, List·getD-append}
@@ -42,6 +42,48 @@ le-of-value (b ∷ l) h =
     let e : b + 256 * v ≡ v * 256 + b = omega arith in
     cons (ap (λ (x : ℕ). x % 256) e ∙ digits-mod v (h .0))
     (ap (λ (x : ℕ). leBytes (length l) (x / 256)) e ∙ ap (leBytes (length l)) (digits-div v (h .0)) ∙ le-of-value l (h .1))
+
+-- a number that fits, its bytes, and the number again
+pub value-of-le : (n x : ℕ) → x < 256 ^ n → leValue (leBytes n x) ≡ x
+value-of-le zero x h = sym (lt-one h)
+value-of-le (suc n) x h =
+    let q = x / 256 in
+    let e : x % 256 + 256 * q ≡ x = omega arith in
+    let l : q < 256 ^ n = div-lt-iff-lt-mul (lit< tt) .1 (subst (λ (m : ℕ). x < m) (pow-suc 256 n) h) in
+    ap (λ (v : ℕ). x % 256 + 256 * v) (value-of-le n q l) ∙ e
+
+-- numbers that fit are told apart by their bytes
+pub le-injective : (n x y : ℕ) → x < 256 ^ n → y < 256 ^ n → leBytes n x ≡ leBytes n y → x ≡ y
+le-injective n x y h k e = sym (value-of-le n x h) ∙ ap leValue e ∙ value-of-le n y k
+
+-- two runs of bytes
+pub value-append : (l m : List ℕ) → leValue (l ++ m) ≡ leValue l + 256 ^ length l * leValue m
+value-append [] m = sym (zero-add (1 * leValue m) ∙ one-mul (leValue m))
+value-append (b ∷ l) m =
+    let p = 256 ^ length l in
+    let v = leValue m in
+    let e : 256 ^ suc (length l) * v ≡ 256 * (p * v) =
+    ap (λ (n : ℕ). n * v) (pow-suc 256 (length l) ∙ mul-comm p 256) ∙ mul-assoc 256 p v in
+    ap (λ (n : ℕ). b + 256 * n) (value-append l m) ∙ distribute b (leValue l) (p * v) ∙ ap (λ (n : ℕ). b + 256 * leValue l + n) (sym e)
+  where
+    distribute : (b x y : ℕ) → b + 256 * (x + y) ≡ b + 256 * x + 256 * y
+    distribute b x y = omega arith
+
+pub le-append : (n m x y : ℕ) → x < 256 ^ n → leBytes (n + m) (y * 256 ^ n + x) ≡ leBytes n x ++ leBytes m y
+le-append zero m x y h =
+    ap₂ leBytes (zero-add m) (ap (λ (z : ℕ). y * 1 + z) (lt-one h) ∙ add-zero (y * 1) ∙ mul-one y)
+le-append (suc n) m x y h =
+    let p = 256 ^ n in
+    let e : y * 256 ^ suc n ≡ y * p * 256 = ap (λ (z : ℕ). y * z) (pow-suc 256 n) ∙ sym (mul-assoc y p 256) in
+    let l : x / 256 < p = div-lt-iff-lt-mul (lit< tt) .1 (subst (λ (z : ℕ). x < z) (pow-suc 256 n) h) in
+    ap₂ (λ (k z : ℕ). leBytes k (z + x)) (suc-add n m) e
+    ∙ cons (low (y * p) x) (ap (leBytes (n + m)) (high (y * p) x) ∙ le-append n m (x / 256) y l)
+  where
+    low : (q x : ℕ) → (q * 256 + x) % 256 ≡ x % 256
+    low q x = omega arith
+
+    high : (q x : ℕ) → (q * 256 + x) / 256 ≡ q + x / 256
+    high q x = omega arith
 
 le-zero : (n j : ℕ) → getD (leBytes n 0) j 0 ≡ 0
 le-zero zero j = refl

@@ -56,6 +56,11 @@ xor-bytes-undo [] k h = refl
 xor-bytes-undo (x ∷ s) [] h = absurd (not-suc-le-zero h)
 xor-bytes-undo (x ∷ s) (y ∷ k) h = cons (xor-undo x y) (xor-bytes-undo s k (le-of-suc-le-suc h))
 
+pub xor-length : (s k : List ℕ) → length s ≤ length k → length (xorBytes s k) ≡ length s
+xor-length [] k h = refl
+xor-length (x ∷ s) [] h = absurd (not-suc-le-zero h)
+xor-length (x ∷ s) (y ∷ k) h = ap suc (xor-length s k (le-of-suc-le-suc h))
+
 pub xor-bytes : (s k : List ℕ) → Bytes s → Bytes k → Bytes (xorBytes s k)
 xor-bytes [] k g h = tt
 xor-bytes (x ∷ s) [] g h = tt

@@ -1,3 +1,4 @@
 pub mod Bytes
 pub mod Words
 pub mod Blocks
+pub mod Polynomials

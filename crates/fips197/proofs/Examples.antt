@@ -5,7 +5,8 @@ use mathlib.Core.List.{List, [], _∷_}
 use Prim.Native.Nat.{ℕ}
 use native.Mathlib.Omega.{arith}
 use Rattle.bits.proofs.Lists.{alike-eq}
-use Rattle.fips197.specs.Field.{xtime, multiplyBits, multiply}
+use Rattle.bits.specs.Polynomials.{multiplyBits}
+use Rattle.fips197.specs.Field.{xtime, multiply}
 use Rattle.fips197.specs.Sbox.{square, next, inverse, bit, fromBits, affine, sbox}
 use Rattle.fips197.specs.Cipher.{subBytes, shiftRows, matrixRow, mixBy, mixColumns, addRoundKey, round, finalRound, rounds, cipher}
 use Rattle.fips197.specs.KeyExpansion.{wordAt, roundKey, addWords, subWord, rotWord, power, rcon, transformed, nextWord, expanded, keyExpansion}
@@ -16,7 +17,7 @@ use Rattle.fips197.proofs.Undo.{decrypt-encrypt}
 computed : ℕ → List ℕ → List ℕ → List ℕ
 unfolding encrypt cipher rounds finalRound round addRoundKey mixColumns mixBy matrixRow shiftRows subBytes
     wordAt roundKey addWords subWord rotWord power rcon transformed nextWord expanded keyExpansion
-    xtime multiplyBits multiply square next inverse bit fromBits affine sbox
+    xtime multiplyBits square next inverse bit fromBits affine sbox
 computed nk key b = encrypt nk key b
 
 abbrev plaintext : List ℕ

@@ -14,7 +14,8 @@ use Rattle.bits.proofs.Lists.{bytes-at, bytes-append}
 use Rattle.fips197.specs.Cipher.{addRoundKey, round, finalRound, rounds, cipher}
 use Rattle.fips197.specs.InvCipher.{invRound, invFinalRound, invRounds, invCipher}
 use Rattle.fips197.specs.KeyExpansion.{wordAt, roundKey, addWords, subWord, rotWord, power, rcon, transformed, nextWord, expanded, keyExpansion}
-use Rattle.fips197.proofs.Field.{xtime-byte}
+use Rattle.bits.proofs.Field.{timesX-lt}
+use Rattle.fips197.proofs.Field.{gf256}
 use Rattle.fips197.proofs.Sbox.{sbox-byte}
 use Rattle.fips197.proofs.State.{word-bytes, state-bytes, state-ext}
 
@@ -86,7 +87,7 @@ subWord-bytes t = search sbox-byte
 pub power-byte : (n : ℕ) → power n < 256
 unfolding power
 power-byte zero = lit< tt
-power-byte (suc n) = xtime-byte (power n) (power-byte n)
+power-byte (suc n) = timesX-lt gf256 (power n) (power-byte n)
 
 rcon-bytes : (i : ℕ) → Bytes (rcon i)
 unfolding rcon

@@ -4,7 +4,8 @@ use mathlib.Core.Path.{_≡_, ap, fun-ext, _∙_}
 use Prim.Native.Nat.{ℕ, _<_}
 use lib.Bits.{bitXor, xor-lt}
 use Rattle.bits.proofs.Xor.{interchange}
-use Rattle.fips197.proofs.Field.{Additive}
+use Rattle.bits.proofs.Field.{Additive}
+use Rattle.fips197.proofs.Field.{gf256}
 
 -- f 0 to f 3, added
 abbrev pub sum : (ℕ → ℕ) → ℕ
@@ -37,7 +38,7 @@ module _ (f : ℕ → ℕ) (h : (i : ℕ) → f i < 256) where
   pub sum-byte : sum f < 256
   sum-byte = xor-lt 8 (bitXor (bitXor (f 0) (f 1)) (f 2)) (f 3) three (h 3)
 
-  pub sum-map : (m : ℕ → ℕ) → Additive m → m (sum f) ≡ sum (λ i. m (f i))
+  pub sum-map : (m : ℕ → ℕ) → Additive gf256 m → m (sum f) ≡ sum (λ i. m (f i))
   sum-map m add =
       add (bitXor (bitXor (f 0) (f 1)) (f 2)) (f 3) three (h 3)
       ∙ ap (λ (x : ℕ). bitXor x (m (f 3)))

@@ -79,3 +79,11 @@ cipher-length w nr b = refl
 pub inv-cipher-length : (w : List ℕ) (nr : ℕ) (b : List ℕ) → length (invCipher w nr b) ≡ 16
 unfolding invCipher invFinalRound addRoundKey
 inv-cipher-length w nr b = refl
+
+pub encrypt-bytes : (nk : ℕ) (key b : List ℕ) → Bytes key → Bytes (encrypt nk key b)
+unfolding encrypt
+encrypt-bytes nk key b h = cipher-bytes (keyExpansion nk key) (nk + 6) b (expansion-bytes nk key h)
+
+pub encrypt-length : (nk : ℕ) (key b : List ℕ) → length (encrypt nk key b) ≡ 16
+unfolding encrypt
+encrypt-length nk key b = cipher-length (keyExpansion nk key) (nk + 6) b

@@ -7,7 +7,8 @@ use mathlib.Core.Bool.{Bool}
 use lib.Dec.{eqb, eqb→eq}
 use lib.ListN.{getD}
 use Rattle.bits.proofs.Table.{entry}
-use Rattle.fips197.specs.Field.{multiply, multiplyBits, xtime}
+use Rattle.bits.specs.Polynomials.{multiplyBits}
+use Rattle.fips197.specs.Field.{multiply, xtime}
 use Rattle.fips197.specs.Sbox.{invSbox, invAffine, fromBits, bit, inverse, next, square}
 use Rattle.sbox.proofs.inverse.inverse_table.Statement.{statement}
 use Rattle.sbox.proofs.inverse.inverse_table.Tie as tie
@@ -18,7 +19,7 @@ right : ℕ → ℕ → Bool
 right b x = eqb x (invSbox b)
 
 returns : tie.Need-returns
-unfolding right invSbox invAffine fromBits bit inverse next square multiply multiplyBits xtime
+unfolding right invSbox invAffine fromBits bit inverse next square multiplyBits xtime
 returns c b h =
     let table : List ℕ = resV lts.r (tt {0}) ((lts.m2 reads.Pre reads.Post (c .args)) .0) in
     eqb→eq (getD table b 0) (invSbox b) (entry right table tt b h)

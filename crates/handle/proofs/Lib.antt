@@ -1,0 +1,4 @@
+pub mod Wrap
+pub mod Integrity
+pub mod Aad
+pub mod Examples

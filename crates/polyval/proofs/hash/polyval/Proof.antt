@@ -1,0 +1,90 @@
+-- s is POLYVAL of the blocks before i, by whatever key the table has.
+-- Assumes nothing.
+use mathlib.Core.Path.{_≡_, refl, ap, ap₂, _∙_}
+use mathlib.Core.List.{map}
+use Prim.Native.Nat.{ℕ, _-_, _/_, _^_, _≤_, _<_}
+use native.Mathlib.Omega.{arith}
+use borrow.Author.Needs.{needs}
+use lib.ListN.{length}
+use Rattle.bits.specs.Blocks.{blocks}
+use Rattle.bits.specs.Words.{leBytes, leValue}
+use Rattle.aes.specs.Form.{bytesOf}
+use Rattle.rfc8452.specs.Polyval.{polyvalFrom, polyval}
+use Rattle.polyval.specs.Form.{num, Multiples}
+use Rattle.polyval.proofs.Folding.{block-more}
+use Rattle.polyval.proofs.Halves.{halves-lt}
+use Rattle.polyval.proofs.hash.polyval.Statement.{statement}
+use Rattle.polyval.proofs.hash.polyval.Tie as tie
+
+abbrev Inv-loop : tie.InvT-loop
+Inv-loop bytes t n s₀ i₀ s i =
+    (i ≤ n) × ((h : ℕ) → h < 2 ^ 128 → Multiples h t → num s ≡ polyvalFrom h 0 (map leValue (blocks i bytes)))
+
+abbrev μ-loop : tie.MeasureT-loop
+μ-loop bytes t n s₀ i₀ s i = n - i
+
+from-block-requires : tie.Need-from-block-requires Inv-loop μ-loop
+from-block-requires c κs = search needs
+
+multiples-requires : tie.Need-multiples-requires Inv-loop μ-loop
+multiples-requires c κs = search needs
+
+loop-holds : tie.Need-loop-holds Inv-loop μ-loop
+loop-holds c = (search needs, λ h l rule. refl)
+
+mul-block-at : tie.Need-mul-block-at Inv-loop μ-loop
+mul-block-at c = search needs
+
+block-at-requires : tie.Need-block-at-requires Inv-loop μ-loop
+block-at-requires c κs = search needs
+
+update-requires : tie.Need-update-requires Inv-loop μ-loop
+update-requires c κs = search needs
+
+add-i : tie.Need-add-i Inv-loop μ-loop
+add-i c = search needs
+
+loop-less : tie.Need-loop-less Inv-loop μ-loop
+loop-less c = search needs
+
+loop-again : tie.Need-loop-again Inv-loop μ-loop
+loop-again c =
+    let at-loop = c .before .before .before .before in
+    let bytes = at-loop .before .before .before .before .args .bytes .now in (
+      omega arith,
+      λ h l rule. block-more h (at-loop .loop .i) (num (at-loop .loop .s)) (num (c .update .result)) bytes (bytesOf (c .before .block-at .result))
+          (at-loop .loop .inv .1 h l rule) (c .before .block-at .ensures) (c .update .ensures h l rule),
+    )
+
+to-block-requires : tie.Need-to-block-requires Inv-loop μ-loop
+to-block-requires c κs = search needs
+
+returns : tie.Need-returns Inv-loop μ-loop
+unfolding polyval
+returns c =
+    let at-loop = c .before .before in
+    let e = at-loop .before .before .from-block in
+    let bytes = at-loop .before .before .before .before .args .bytes .now in
+    let end : at-loop .loop .i ≡ length bytes / 16 = omega arith in
+    c .to-block .ensures
+    ∙ ap (leBytes 16)
+    (at-loop .loop .inv .1 (num (e .result)) (halves-lt (e .result .hi) (e .result .lo) (search needs) (search needs)) (at-loop .before .multiples .ensures)
+    ∙ ap₂ (λ (h n : ℕ). polyvalFrom h 0 (map leValue (blocks n bytes))) (e .ensures) end)
+
+pub polyval-spec : {M : Type 1} → statement M
+polyval-spec =
+    tie.close
+    (tie.spec
+    Inv-loop
+    μ-loop
+    from-block-requires
+    multiples-requires
+    loop-holds
+    mul-block-at
+    block-at-requires
+    update-requires
+    add-i
+    loop-less
+    loop-again
+    to-block-requires
+    returns)
