@@ -3,5 +3,6 @@
 set -e
 cd "$(dirname "$0")/.."
 
-python3 tests/fips197_stdout.py --check
+python3 tests/vectors_stdout.py --check
+python3 tests/key_locker.py
 exec rt ci

@@ -1,18 +1,19 @@
 #!/usr/bin/env python3
 """Makes crates/vectors/stdout, what the program vectors has to write, from the files of test vectors.
 
-  fips197_stdout.py          write crates/vectors/stdout
-  fips197_stdout.py --check  exit with 1 where crates/vectors/stdout is something else
+  vectors_stdout.py          write crates/vectors/stdout
+  vectors_stdout.py --check  exit with 1 where crates/vectors/stdout is something else
 
 A line of a vector file has a kind, a name and fields of hexadecimal digits; '#' begins a comment.
 """
 
 import re
 import sys
+from functools import partial
 from pathlib import Path
 
 ROOT = Path(__file__).resolve().parent.parent
-VECTORS = ["tests/vectors/fips197.txt"]
+VECTORS = ["tests/vectors/fips197.txt", "tests/vectors/rfc8452.txt", "tests/vectors/handles.txt"]
 STDOUT = "crates/vectors/stdout"
 
 
@@ -23,6 +24,11 @@ class BadLine(Exception):
 def require_bytes(field, *sizes):
     if len(field) not in [2 * size for size in sizes]:
         raise BadLine(f"{field} is not {' or '.join(map(str, sizes))} bytes")
+
+
+def require_iwkey(integrity, encryption):
+    require_bytes(integrity, 16)
+    require_bytes(encryption, 32)
 
 
 # One function for each kind of line: of its fields it makes the lines that the program has to write.
@@ -50,7 +56,46 @@ def cipher(name, key, plaintext, ciphertext):
     ]
 
 
-KINDS = {"expand": expand, "cipher": cipher}
+def operation(kind, name, a, b, result):
+    for field in a, b, result:
+        require_bytes(field, 16)
+    return [f"{kind} {name} {result}"]
+
+
+def polyval(name, h, blocks, result):
+    require_bytes(h, 16)
+    require_bytes(result, 16)
+    if not blocks or len(blocks) % 32 != 0:
+        raise BadLine(f"{blocks} is not one or more blocks of 16 bytes")
+    return [f"polyval {name} {result}"]
+
+
+def handle(name, integrity, encryption, aad, key, handle):
+    require_iwkey(integrity, encryption)
+    require_bytes(aad, 16)
+    require_bytes(key, 16, 32)
+    require_bytes(handle, 32 + len(key) // 2)
+    if not handle.startswith(aad):
+        raise BadLine("a handle has the AAD first")
+    return [f"wrap {name} {handle}", f"unwrap {name} {key}"]
+
+
+def refused(name, integrity, encryption, handle):
+    require_iwkey(integrity, encryption)
+    require_bytes(handle, 48, 64)
+    return [f"unwrap {name} none"]
+
+
+KINDS = {
+    "expand": expand,
+    "cipher": cipher,
+    "sum": partial(operation, "sum"),
+    "product": partial(operation, "product"),
+    "dot": partial(operation, "dot"),
+    "polyval": polyval,
+    "handle": handle,
+    "refused": refused,
+}
 
 
 def lines_of(line):
@@ -83,9 +128,9 @@ def expected():
 def check(text):
     path = ROOT / STDOUT
     if not path.is_file():
-        sys.exit(f"there is no {STDOUT}; tests/fips197_stdout.py makes it")
+        sys.exit(f"there is no {STDOUT}; tests/vectors_stdout.py makes it")
     if path.read_text() != text:
-        sys.exit(f"{STDOUT} is not what the vectors say; tests/fips197_stdout.py makes it anew")
+        sys.exit(f"{STDOUT} is not what the vectors say; tests/vectors_stdout.py makes it anew")
 
 
 def main(args):
