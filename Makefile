@@ -1,31 +1,37 @@
-# make bench     measure the proved library against AES in C
+# make bench     measure the proved libraries against AES and key wrapping in C
 # make examples  print FIPS 197's examples, computed by the proved library
 # make test      all tests, as tests/run.sh has them
 # make clean     remove build/; what rt made is in target/
 
 CC = gcc
 CFLAGS = -std=c11 -Wall -Wextra -O2
-LIBRARY = target/staticlib/libaes_c.a
 
-# all that the library is proved and compiled from
+# all that the libraries are proved and compiled from
 SOURCES := crates.txt $(shell find crates -name '*.rt' -o -name '*.antt')
 
-BENCH = aes aes_bytes aes_ttables
+HEADERS := $(wildcard bench/*.h)
+BASELINE = measure aes_bytes aes_ttables
+AES = aes $(BASELINE)
+KEYWRAP = keywrap keywrap_bytes keywrap_ttables $(BASELINE)
 
 .PHONY: bench examples test clean
 
-bench: build/bench
-	./build/bench
+bench: build/bench_aes build/bench_keywrap
+	./build/bench_aes
+	@echo
+	./build/bench_keywrap
 
-build/bench: $(BENCH:%=build/%.o) $(LIBRARY)
+build/bench_aes: $(AES:%=build/%.o) target/staticlib/libaes_c.a
+build/bench_keywrap: $(KEYWRAP:%=build/%.o) target/staticlib/libkeywrap_c.a
+build/bench_%:
 	$(CC) $(CFLAGS) -o $@ $^ -lm
 
-build/%.o: bench/%.c bench/aes_baseline.h
+build/%.o: bench/%.c $(HEADERS)
 	@mkdir -p build
 	$(CC) $(CFLAGS) -c -o $@ $<
 
-target/staticlib/libaes_c.a: $(SOURCES)
-	rt staticlib aes_c
+target/staticlib/lib%.a: $(SOURCES)
+	rt staticlib $*
 	@touch $@
 
 # rt keeps what a program wrote when it last ran

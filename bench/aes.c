@@ -1,16 +1,14 @@
 // Measures the proved AES library against the two cores in C of aes_baseline.h, after checking that
 // all three compute the same. A missed bar is printed and is no failure of the program, since a busy
 // machine can be the reason; a wrong result is one.
-#define _POSIX_C_SOURCE 199309L // clock_gettime
-
 #include "aes_baseline.h"
+#include "measure.h"
 
 #include <math.h>
 #include <stdbool.h>
 #include <stdio.h>
 #include <stdlib.h>
 #include <string.h>
-#include <time.h>
 
 // The proved library, target/staticlib/libaes_c.a.
 void aes_key_expansion(uint8_t size, const uint8_t key[32], uint32_t w[60]);
@@ -26,27 +24,23 @@ enum op { ENCRYPT, DECRYPT, KEY_SCHEDULE };
 static const char *const op_names[] = {"encrypt", "decrypt", "key schedule"};
 
 struct core {
-    const char *name;
     void (*key_expansion)(uint8_t size, const uint8_t key[32], uint32_t w[60]);
     void (*inv_key_expansion)(uint8_t size, uint32_t w[60]); // NULL: both directions take the same w
     block_fn *block[2];                                      // by op, ENCRYPT or DECRYPT
     blocks_fn *blocks[2];
 };
 
-enum { PROVED, BYTES, TTABLES, CORES };
 static const struct core cores[CORES] = {
-    [PROVED] = {"proved", aes_key_expansion, NULL,
+    [PROVED] = {aes_key_expansion, NULL,
                 {aes_encrypt_block, aes_decrypt_block}, {aes_encrypt_blocks, aes_decrypt_blocks}},
-    [BYTES] = {"byte-wise", bytes_key_expansion, NULL,
+    [BYTES] = {bytes_key_expansion, NULL,
                {bytes_encrypt_block, bytes_decrypt_block}, {bytes_encrypt_blocks, bytes_decrypt_blocks}},
-    [TTABLES] = {"T-table", ttables_key_expansion, ttables_inv_key_expansion,
+    [TTABLES] = {ttables_key_expansion, ttables_inv_key_expansion,
                  {ttables_encrypt_block, ttables_decrypt_block},
                  {ttables_encrypt_blocks, ttables_decrypt_blocks}},
 };
 
 enum { MAX_BYTES = 4096 * BLOCK_BYTES };
-
-static int key_bits(uint8_t size) { return size == 0 ? 128 : 256; }
 
 // The round keys that core wants for op.
 static void schedule(const struct core *core, uint8_t size, enum op op, const uint8_t key[32], uint32_t w[60])
@@ -58,23 +52,12 @@ static void schedule(const struct core *core, uint8_t size, enum op op, const ui
 
 // ---- the check
 
-// Random bytes from a fixed seed (splitmix64), so that a failure comes again.
-static void fill_random(uint8_t *p, size_t len)
-{
-    static uint64_t state = 197;
-    for (size_t i = 0; i < len; i++) {
-        uint64_t z = state += 0x9e3779b97f4a7c15;
-        z = (z ^ z >> 30) * 0xbf58476d1ce4e5b9;
-        z = (z ^ z >> 27) * 0x94d049bb133111eb;
-        p[i] = (uint8_t)(z >> 56);
-    }
-}
-
 static void require(bool holds, const struct core *core, uint8_t size, enum op op, size_t len, const char *what)
 {
     if (holds)
         return;
-    fprintf(stderr, "bench: %s AES-%d %s of %zu bytes: %s\n", core->name, key_bits(size), op_names[op], len, what);
+    fprintf(stderr, "bench: %s AES-%d %s of %zu bytes: %s\n", core_names[core - cores], key_bits(size), op_names[op], len,
+            what);
     exit(1);
 }
 
@@ -170,26 +153,6 @@ static void check_all(void)
 
 // ---- the measurement
 
-// A run of a core is SLICES slices, between which the other cores take their turn, so that noise hits
-// all alike.
-enum { RUNS = 15, SLICES = 10 };
-static const double min_slice_ns = 3e5;
-
-struct row {
-    uint8_t size;
-    enum op op;
-    size_t blocks; // 0 for a key schedule
-    size_t reps[CORES];
-    double ns[CORES];
-};
-
-static double now_ns(void)
-{
-    struct timespec t;
-    clock_gettime(CLOCK_MONOTONIC, &t);
-    return (double)t.tv_sec * 1e9 + (double)t.tv_nsec;
-}
-
 // What is called, as often as reps says, in place and so each time on the result of the last. No core
 // sees the loop, since each is compiled apart.
 static void repeat(const struct core *core, const struct row *row, const uint8_t key[32], uint32_t w[60], size_t reps)
@@ -207,60 +170,15 @@ static void repeat(const struct core *core, const struct row *row, const uint8_t
     }
 }
 
-static double slice_ns(const struct core *core, const struct row *row, size_t reps)
+static double slice_ns(int core, const struct row *row, size_t reps)
 {
     static _Alignas(64) uint32_t w[MAX_WORDS];
     static const uint8_t key[32] = {0x60, 0x3d, 0xeb, 0x10, 0x15, 0xca, 0x71, 0xbe};
-    schedule(core, row->size, row->op, key, w);
+    schedule(&cores[core], row->size, row->op, key, w);
     double start = now_ns();
-    repeat(core, row, key, w, reps);
+    repeat(&cores[core], row, key, w, reps);
     return now_ns() - start;
 }
-
-// The number of calls that makes a slice long enough for the clock.
-static size_t enough_reps(const struct core *core, const struct row *row)
-{
-    size_t reps = 1;
-    while (slice_ns(core, row, reps) < min_slice_ns)
-        reps *= 2;
-    return reps;
-}
-
-static void prepare(struct row *row)
-{
-    for (int i = 0; i < CORES; i++) {
-        row->reps[i] = enough_reps(&cores[i], row);
-        row->ns[i] = HUGE_VAL;
-    }
-}
-
-// One run of each core. The least of all runs counts.
-static void measure(struct row *row)
-{
-    double total[CORES] = {0};
-    for (int slice = 0; slice < SLICES; slice++)
-        for (int i = 0; i < CORES; i++)
-            total[i] += slice_ns(&cores[i], row, row->reps[i]);
-    for (int i = 0; i < CORES; i++) {
-        size_t units = SLICES * row->reps[i] * (row->blocks ? row->blocks : 1);
-        double ns = total[i] / (double)units;
-        if (ns < row->ns[i])
-            row->ns[i] = ns;
-    }
-}
-
-// A run of all rows at a time, so that the runs of each row spread over the whole measurement and a
-// busy second of the machine spoils none of them.
-static void measure_all(struct row *rows, size_t count)
-{
-    for (size_t i = 0; i < count; i++)
-        prepare(&rows[i]);
-    for (int run = 0; run < RUNS; run++)
-        for (size_t i = 0; i < count; i++)
-            measure(&rows[i]);
-}
-
-static double ratio(const struct row *row, int to) { return row->ns[PROVED] / row->ns[to]; }
 
 static void print_label(const struct row *row)
 {
@@ -271,30 +189,7 @@ static void print_label(const struct row *row)
         printf("%11s", "");
 }
 
-static void print_head(void)
-{
-    printf("%-31s", "ns per block or schedule");
-    for (int i = 0; i < CORES; i++)
-        printf("%11s", cores[i].name);
-    printf("%13s%13s\n", "to byte-wise", "to T-table");
-}
-
-static void print_row(const struct row *row)
-{
-    print_label(row);
-    for (int i = 0; i < CORES; i++)
-        printf("%11.1f", row->ns[i]);
-    printf("%13.2f%13.2f\n", ratio(row, BYTES), ratio(row, TTABLES));
-}
-
 // ---- the bars
-
-struct bar {
-    const char *what;
-    size_t blocks; // of the rows that it holds for
-    int to;
-    double most;
-};
 
 static const struct bar bars[] = {
     {"1 block", 1, BYTES, 0.70},
@@ -302,18 +197,6 @@ static const struct bar bars[] = {
     {"4096 blocks", 4096, TTABLES, 1.50},
     {"key schedule", 0, BYTES, 0.60},
 };
-
-static void print_bar(const struct bar *bar, const struct row *rows, size_t count)
-{
-    const struct row *worst = NULL;
-    for (size_t i = 0; i < count; i++)
-        if (rows[i].blocks == bar->blocks && (!worst || ratio(&rows[i], bar->to) > ratio(worst, bar->to)))
-            worst = &rows[i];
-    double is = ratio(worst, bar->to);
-    printf("%-6s  %-12s  at most %.2f x %-9s  worst %.3f, ", is <= bar->most ? "pass" : "MISSED", bar->what, bar->most,
-           cores[bar->to].name, is);
-    printf("AES-%d %s\n", key_bits(worst->size), op_names[worst->op]);
-}
 
 // The key schedule's bar is against figure 11 as FIPS 197 prints it. There is a faster byte-wise form,
 // and the proved one is not 0.6 of that: so both are shown.
@@ -327,14 +210,12 @@ static double key_expansion_ns(void (*expand)(uint8_t, const uint8_t *, uint32_t
     require(memcmp(w, first, 16 * (rounds_of(size) + 1)) == 0, &cores[BYTES], size, KEY_SCHEDULE, sizeof key, "forms differ");
     double best = INFINITY;
     for (int run = 0; run < 15; run++) {
-        struct timespec a, b;
-        clock_gettime(CLOCK_MONOTONIC, &a);
+        double start = now_ns();
         for (int i = 0; i < 30000; i++) {
             expand(size, key, w);
             key[0] = (uint8_t)w[4];
         }
-        clock_gettime(CLOCK_MONOTONIC, &b);
-        best = fmin(best, ((double)(b.tv_sec - a.tv_sec) * 1e9 + (double)(b.tv_nsec - a.tv_nsec)) / 30000);
+        best = fmin(best, (now_ns() - start) / 30000);
     }
     return best;
 }
@@ -363,13 +244,17 @@ int main(void)
     sbox_init();
     ttables_init();
     check_all();
-    measure_all(rows, count);
-    print_head();
-    for (size_t i = 0; i < count; i++)
-        print_row(&rows[i]);
+    measure_all(rows, count, slice_ns);
+    print_head("ns per block or schedule");
+    for (size_t i = 0; i < count; i++) {
+        print_label(&rows[i]);
+        print_figures(&rows[i]);
+    }
     puts("");
-    for (size_t i = 0; i < sizeof bars / sizeof *bars; i++)
-        print_bar(&bars[i], rows, count);
+    for (size_t i = 0; i < sizeof bars / sizeof *bars; i++) {
+        const struct row *worst = print_bar(&bars[i], rows, count, "pass", "MISSED");
+        printf("AES-%d %s\n", key_bits(worst->size), op_names[worst->op]);
+    }
     print_grouped();
     return 0;
 }

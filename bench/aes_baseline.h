@@ -20,6 +20,8 @@ static inline unsigned rounds_of(uint8_t size) { return size == 0 ? 10 : 14; }
 // The number of key words, Nk in FIPS 197.
 static inline unsigned key_words_of(uint8_t size) { return size == 0 ? 4 : 8; }
 
+static inline int key_bits(uint8_t size) { return size == 0 ? 128 : 256; }
+
 // Multiplies by x in GF(2^8).
 static inline uint8_t xtime(uint8_t a) { return (uint8_t)((a << 1) ^ (-(a >> 7) & 0x1b)); }
 
