@@ -1,0 +1,30 @@
+-- What depends on the size of the key: its blocks.
+-- Assumes nothing.
+use mathlib.Core.Path.{_≡_, refl}
+use mathlib.Core.List.{List, map}
+use Prim.Native.Nat.{ℕ, _*_, _/_, _≤_}
+use native.Mathlib.Omega.{arith}
+use lib.ListN.{length}
+use Rattle.bits.specs.Blocks.{blocks}
+use Rattle.bits.specs.Words.{leValue}
+use Rattle.aes.specs.Form.{nk, keyBytes}
+use Rattle.aes.specs.declared.Key.{Key}
+use Rattle.aes.specs.declared.KeySize.{KeySize}
+use Rattle.aes.specs.declared.KeySize.the-variants.{Aes128, Aes256}
+
+-- the blocks of a key
+abbrev pub count : KeySize → ℕ
+count Aes128 = 1
+count Aes256 = 2
+
+pub count-few : (size : KeySize) → 16 * count size ≤ 32
+count-few Aes128 = omega arith
+count-few Aes256 = omega arith
+
+pub key-length : (size : KeySize) (k : Key) → length (keyBytes size k) ≡ 16 * count size
+key-length Aes128 k = refl
+key-length Aes256 k = refl
+
+pub words-bytes : (size : KeySize) → 4 * nk size ≡ 16 * count size
+words-bytes Aes128 = refl
+words-bytes Aes256 = refl

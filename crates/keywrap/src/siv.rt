@@ -1,0 +1,106 @@
+// Tag and keystream, by a lent S-box and the schedule of the encryption key.
+ghost use mathlib.Core.Path.{_≡_};
+ghost use mathlib.Core.List.{flatMap};
+ghost use Prim.Native.Nat.{ℕ, _/_};
+ghost use lib.ListN.{length};
+ghost use Rattle.bits.specs.Bytes.{xorBytes, alike};
+ghost use Rattle.fips197.specs.Cipher.{cipher};
+ghost use Rattle.fips197.specs.Sbox.{sbox, TableOf};
+ghost use Rattle.aes.specs.Form.{bytesOf, nr, keyBytes, schedule};
+ghost use Rattle.aes.specs.declared.KeySize.the-variants.{Aes256};
+ghost use Rattle.handle.specs.Wrap as handle;
+ghost use Rattle.keywrap.specs.Form.{wholeKey, padded};
+use crate::hash::hashed;
+use aes::Block;
+use aes::Key;
+use aes::KeySize;
+use aes::cipher::encrypt_with;
+
+fn clear_top(b: Block) -> Block
+    ensures { λ r. ⌜ bytesOf r ≡ handle.clearTop (bytesOf b) ⌝ }
+{
+    Block {
+        a: b.a,
+        b: b.b,
+        c: b.c,
+        d: b.d % 0x8000_0000,
+    }
+}
+
+// Counter block i: only the first word counts, modulo 2^32.
+fn counter_block(tag: Block, i: u32) -> Block
+    ensures { λ r. ⌜ bytesOf r ≡ handle.counterBlock (bytesOf tag) i ⌝ }
+{
+    Block {
+        a: ((tag.a as u64 + i as u64) % 0x1_0000_0000) as u32,
+        b: tag.b,
+        c: tag.c,
+        d: tag.d % 0x8000_0000 + 0x8000_0000,
+    }
+}
+
+fn xor_block(a: Block, b: Block) -> Block
+    ensures { λ r. ⌜ bytesOf r ≡ xorBytes (bytesOf a) (bytesOf b) ⌝ }
+{
+    Block {
+        a: a.a ^ b.a,
+        b: a.b ^ b.b,
+        c: a.c ^ b.c,
+        d: a.d ^ b.d,
+    }
+}
+
+pub fn same(a: Block, b: Block) -> bool
+    ensures { λ r. ⌜ r ≡ alike (bytesOf a) (bytesOf b) ⌝ }
+{
+    (a.a == b.a) & (a.b == b.b) & (a.c == b.c) & (a.d == b.d)
+}
+
+pub fn tag_with(
+    t: &[u8; 256],
+    w: &[u32; 60],
+    integrity: Block,
+    aad: Block,
+    size: KeySize,
+    key: Key,
+) -> Block
+    requires { ⌜ TableOf sbox (now t) ⌝ }
+    ensures { λ r. ⌜ bytesOf r ≡ cipher (schedule Aes256 (now (w .entry))) (nr Aes256) (handle.clearTop (handle.hashed (bytesOf integrity) (bytesOf aad) (keyBytes size key))) ⌝ }
+{
+    let h = clear_top(hashed(integrity, aad, size, key));
+    encrypt_with(t, KeySize::Aes256, w, h)
+}
+
+// A block XORed with block i of the keystream.
+fn mask_block(t: &[u8; 256], w: &[u32; 60], tag: Block, i: u32, b: Block) -> Block
+    requires { ⌜ TableOf sbox (now t) ⌝ }
+    ensures { λ r. ⌜ bytesOf r ≡ xorBytes (bytesOf b) (cipher (schedule Aes256 (now (w .entry))) (nr Aes256) (handle.counterBlock (bytesOf tag) i)) ⌝ }
+{
+    xor_block(
+        b,
+        encrypt_with(t, KeySize::Aes256, w, counter_block(tag, i)),
+    )
+}
+
+// A key, or its ciphertext, XORed with the keystream.
+pub fn mask_with(t: &[u8; 256], w: &[u32; 60], tag: Block, size: KeySize, key: Key) -> Key
+    requires { ⌜ TableOf sbox (now t) ⌝ }
+    ensures { λ r. ⌜ wholeKey r ≡ padded 32 (xorBytes (keyBytes size key) (flatMap (cipher (schedule Aes256 (now (w .entry))) (nr Aes256)) (handle.counterBlocks (bytesOf tag) 0 (length (keyBytes size key) / 16)))) ⌝ }
+{
+    let low = mask_block(t, w, tag, 0, key.low);
+    match size {
+        KeySize::Aes128 => Key {
+            low,
+            high: Block {
+                a: 0,
+                b: 0,
+                c: 0,
+                d: 0,
+            },
+        },
+        KeySize::Aes256 => Key {
+            low,
+            high: mask_block(t, w, tag, 1, key.high),
+        },
+    }
+}
