@@ -14,7 +14,7 @@ use aes::word::from_bytes;
 use aes::word::key_from_bytes;
 use aes::word::to_bytes;
 
-fn key_size(size: u8) -> KeySize
+pub fn key_size(size: u8) -> KeySize
     ensures { λ r. ⌜ r ≡ sizeOf size ⌝ }
 {
     if size == 0 {
