@@ -44,6 +44,11 @@ pub bytes-append : (l m : List ℕ) → Bytes l → Bytes m → Bytes (l ++ m)
 bytes-append [] m g h = h
 bytes-append (x ∷ l) m g h = (g .0, bytes-append l m (g .1) h)
 
+pub bytes-take : (n : ℕ) (l : List ℕ) → Bytes l → Bytes (take n l)
+bytes-take zero l h = tt
+bytes-take (suc n) [] h = tt
+bytes-take (suc n) (x ∷ l) h = (h .0, bytes-take n l (h .1))
+
 -- a run of stores, in two runs
 pub sets-append : (l : List ℕ) (i : ℕ) (v w : List ℕ) → sets l i (v ++ w) ≡ sets (sets l i v) (i + length v) w
 sets-append l i [] w = ap (λ (n : ℕ). sets l n w) (sym (add-zero i))

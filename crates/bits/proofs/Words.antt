@@ -1,11 +1,11 @@
 -- Words and their bytes, over the width: n is the number of bytes.
 -- Assumes nothing.
-use mathlib.Core.Path.{_≡_, refl, sym, ap, ap₂, subst, _∙_}
+use mathlib.Core.Path.{_≡_, refl, sym, ap, ap₂, subst, subst₂, _∙_}
 use mathlib.Core.List.{List, [], _∷_, _++_, append-assoc}
 use Prim.Native.Nat.{ℕ, zero, suc, _+_, _*_, _/_, _%_, _^_, _<_}
-use native.Mathlib.Nat.{mod-lt, mul-suc, mul-one, one-mul, mul-comm, mul-assoc, add-zero, zero-add, suc-add, pow-suc, div-lt-iff-lt-mul}
+use native.Mathlib.Nat.{mod-lt, mod-one, mod-eq-of-lt, one-le-pow, mul-suc, mul-one, one-mul, mul-comm, mul-assoc, add-zero, zero-add, suc-add, pow-suc, div-lt-iff-lt-mul}
 use native.Mathlib.Omega.{arith}
-use lib.Arith.{digits-div, digits-mod, lt-one}
+use lib.Arith.{digits-lt, digits-div, digits-mod, mod-mul, lt-one}
 use lib.Bits.{bitXor, bitAnd, xor-shr, xor-mod, and-shr, and-mod}
 use lib.Dec.{lit<}
 use lib.ListN.{length, getD, take, List·getD-append}
@@ -43,14 +43,27 @@ le-of-value (b ∷ l) h =
     cons (ap (λ (x : ℕ). x % 256) e ∙ digits-mod v (h .0))
     (ap (λ (x : ℕ). leBytes (length l) (x / 256)) e ∙ ap (leBytes (length l)) (digits-div v (h .0)) ∙ le-of-value l (h .1))
 
--- a number that fits, its bytes, and the number again
-pub value-of-le : (n x : ℕ) → x < 256 ^ n → leValue (leBytes n x) ≡ x
-value-of-le zero x h = sym (lt-one h)
-value-of-le (suc n) x h =
+-- a number, its n low bytes, and the number again
+pub value-le : (n x : ℕ) → leValue (leBytes n x) ≡ x % 256 ^ n
+value-le zero x = sym (mod-one x)
+value-le (suc n) x =
     let q = x / 256 in
-    let e : x % 256 + 256 * q ≡ x = omega arith in
-    let l : q < 256 ^ n = div-lt-iff-lt-mul (lit< tt) .1 (subst (λ (m : ℕ). x < m) (pow-suc 256 n) h) in
-    ap (λ (v : ℕ). x % 256 + 256 * v) (value-of-le n q l) ∙ e
+    let p = 256 ^ n in
+    let e : x % 256 + 256 * (q % p) ≡ q % p * 256 + x % 256 = omega arith in
+    ap (λ (v : ℕ). x % 256 + 256 * v) (value-le n q) ∙ e
+    ∙ sym (ap (λ (m : ℕ). x % m) (pow-suc 256 n) ∙ mod-mul x (one-le-pow n 256 (lit< tt)) (lit< tt))
+
+-- where it fits
+pub value-of-le : (n x : ℕ) → x < 256 ^ n → leValue (leBytes n x) ≡ x
+value-of-le n x h = value-le n x ∙ mod-eq-of-lt h
+
+pub value-lt : (l : List ℕ) → Bytes l → leValue l < 256 ^ length l
+value-lt [] h = lit< tt
+value-lt (b ∷ l) h =
+    subst₂ (λ (v m : ℕ). v < m) (mul-comm-add (leValue l) b) (sym (pow-suc 256 (length l))) (digits-lt (value-lt l (h .1)) (h .0))
+  where
+    mul-comm-add : (v b : ℕ) → v * 256 + b ≡ b + 256 * v
+    mul-comm-add v b = omega arith
 
 -- numbers that fit are told apart by their bytes
 pub le-injective : (n x y : ℕ) → x < 256 ^ n → y < 256 ^ n → leBytes n x ≡ leBytes n y → x ≡ y

@@ -1,4 +1,5 @@
 pub mod Wrap
+pub mod Steps
 pub mod Integrity
 pub mod Aad
 pub mod Examples

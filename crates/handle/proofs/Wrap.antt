@@ -17,7 +17,7 @@ use Rattle.bits.proofs.Xor.{xor-bytes-undo, xor-length, xor-bytes}
 use Rattle.fips197.specs.Aes.{encrypt}
 use Rattle.fips197.proofs.Undo.{encrypt-length, encrypt-bytes}
 use Rattle.handle.specs.Format.{handle, aadOf, tagOf, ciphertextOf}
-use Rattle.handle.specs.Wrap.{hashed, clearTop, tag, counterBlock, counterBlocks, keystream, wrapKey, decrypted, unwrapKey}
+use Rattle.handle.specs.Wrap.{hashed, clearTop, tag, counterBlock, counterBlocks, keystream, masked, wrapKey, decrypted, unwrapKey}
 
 -- ---- tag and keystream
 
@@ -56,10 +56,6 @@ keystream-bytes e t n h = stream-bytes e t 0 n h
 
 -- ---- exclusive or with the keystream
 
--- what wrapping does to a key and unwrapping to a ciphertext, t being the tag
-abbrev pub masked : List ℕ → List ℕ → List ℕ → List ℕ
-masked e t s = xorBytes s (keystream e t (length s / 16))
-
 module _ (e t s : List ℕ) (n : ℕ) (h : length s ≡ 16 * n) where
   covered : length s ≤ length (keystream e t (length s / 16))
   covered = omega (arith, keystream-length e t (length s / 16))
@@ -92,7 +88,7 @@ unfolding wrapKey
 wrap-tag i e aad key h = let t = tag i e aad key in handle-tag aad t (masked e t key) h (tag-length i e aad key)
 
 pub wrap-ciphertext : (i e aad key : List ℕ) → length aad ≡ 16
-    → ciphertextOf (wrapKey i e aad key) ≡ xorBytes key (keystream e (tag i e aad key) (length key / 16))
+    → ciphertextOf (wrapKey i e aad key) ≡ masked e (tag i e aad key) key
 unfolding wrapKey
 wrap-ciphertext i e aad key h = let t = tag i e aad key in handle-ciphertext aad t (masked e t key) h (tag-length i e aad key)
 

@@ -46,14 +46,17 @@ counterBlocks t i (suc n) = counterBlock t i ∷ counterBlocks t (i + 1) n
 unfoldable pub keystream : List ℕ → List ℕ → ℕ → List ℕ
 keystream encryption t n = flatMap (encrypt 8 encryption) (counterBlocks t 0 n)
 
+-- RFC 8452 section 4: a key XORed with the keystream, which makes the ciphertext, and the ciphertext, which makes the key
+abbrev pub masked : List ℕ → List ℕ → List ℕ → List ℕ
+masked encryption t s = xorBytes s (keystream encryption t (length s / 16))
+
 -- A.3.6 WrapKey128, A.3.7 WrapKey256: the handle of a key
 unfoldable pub wrapKey : List ℕ → List ℕ → List ℕ → List ℕ → List ℕ
-wrapKey integrity encryption aad key =
-    let t = tag integrity encryption aad key in handle aad t (xorBytes key (keystream encryption t (length key / 16)))
+wrapKey integrity encryption aad key = let t = tag integrity encryption aad key in handle aad t (masked encryption t key)
 
 -- A.3.4, A.3.5: the key that a handle holds, if it is authentic
 unfoldable pub decrypted : List ℕ → List ℕ → List ℕ
-decrypted encryption h = xorBytes (ciphertextOf h) (keystream encryption (tagOf h) (length (ciphertextOf h) / 16))
+decrypted encryption h = masked encryption (tagOf h) (ciphertextOf h)
 
 -- A.3.4 UnwrapKeyAndAuthenticate384, A.3.5 UnwrapKeyAndAuthenticate512: the key exactly where the tag made anew is the handle's
 unfoldable pub unwrapKey : List ℕ → List ℕ → List ℕ → Option (List ℕ)

@@ -17,8 +17,8 @@ use Rattle.rfc8452.specs.Field.{add, dot}
 use Rattle.rfc8452.specs.Polyval.{polyvalFrom}
 use Rattle.polyval.proofs.Folding.{from-more}
 use Rattle.handle.specs.Format.{handle, aadOf, tagOf, ciphertextOf}
-use Rattle.handle.specs.Wrap.{hashed, clearTop, tag, counterBlocks, keystream, wrapKey, decrypted, unwrapKey}
-use Rattle.handle.proofs.Wrap.{masked, masked-length, handle-aad, handle-tag, handle-ciphertext}
+use Rattle.handle.specs.Wrap.{hashed, clearTop, tag, counterBlocks, keystream, masked, wrapKey, decrypted, unwrapKey}
+use Rattle.handle.proofs.Wrap.{masked-length, handle-aad, handle-tag, handle-ciphertext}
 use Rattle.keywrap.specs.Form.{padded, paddedKey}
 use Rattle.keywrap.proofs.Parts.{unpadded, handle-padded}
 
