@@ -126,6 +126,11 @@ module _ (F : Field) where
   power-add zero n x = ap (λ (j : ℕ). power j x) (zero-add n)
   power-add (suc m) n x = ap (λ (j : ℕ). power j x) (suc-add m n) ∙ ap T (power-add m n x)
 
+  -- one place more, as a loop counts
+  pub power-more : (n x : ℕ) → power (n + 1) x ≡ T (power n x)
+  unfolding timesPower
+  power-more n x = ap (λ (j : ℕ). power j x) (add-one n)
+
   pub power-shift : (n x : ℕ) → x * 2 ^ n < N → power n x ≡ x * 2 ^ n
   unfolding timesPower
   power-shift zero x h = sym (mul-one x)

@@ -50,6 +50,12 @@ dot-product a b h =
     let l : p < 2 ^ 128 = times-lt gf128 a b h in
     sym (times-power gf128 128 p inverseX128 l (lit< tt)) ∙ ap (multiply p) x-128 ∙ times-one gf128 p l
 
+-- the dot product with x^128 times an element is the product with it
+pub dot-shifted : (a b : ℕ) → a < 2 ^ 128 → b < 2 ^ 128 → dot a (timesXTo 128 b) ≡ multiply a b
+unfolding dot
+dot-shifted a b ha hb =
+    ap (λ (p : ℕ). multiply p inverseX128) (times-power gf128 128 a b ha hb) ∙ undo (multiply a b) (times-lt gf128 a b ha)
+
 pub dot-zero : (a : ℕ) → dot a 0 ≡ 0
 unfolding dot
 dot-zero a = ap (λ (p : ℕ). multiply p inverseX128) (times-zero gf128 a) ∙ zero-times gf128 inverseX128

@@ -1,21 +1,26 @@
+-- i is at most 112, and the array keeps its length.
+-- Assumes nothing.
 use mathlib.Core.Path.{_≡_}
 use Prim.Native.Nat.{_≤_, _-_}
 use lib.ListN.{length}
 use borrow.Author.Needs.{needs}
-use Rattle.vectors.proofs.eight_times.Statement.{statement}
-use Rattle.vectors.proofs.eight_times.Tie as tie
+use Rattle.vectors.proofs.hex.bytes_of.Statement.{statement}
+use Rattle.vectors.proofs.hex.bytes_of.Tie as tie
 
 abbrev Inv-loop : tie.InvT-loop
-Inv-loop block bytes₀ i₀ bytes i = (i ≤ 128) × (length bytes ≡ 128)
+Inv-loop text bytes₀ i₀ bytes i = (i ≤ 112) × (length bytes ≡ 112)
 
 abbrev μ-loop : tie.MeasureT-loop
-μ-loop block bytes₀ i₀ bytes i = 128 - i
+μ-loop text bytes₀ i₀ bytes i = 112 - i
 
 loop-holds : tie.Need-loop-holds Inv-loop μ-loop
 loop-holds c = search needs
 
-array-read-bytes : tie.Need-array-read-bytes Inv-loop μ-loop
-array-read-bytes c = search needs
+mul-byte-at : tie.Need-mul-byte-at Inv-loop μ-loop
+mul-byte-at c = search needs
+
+byte-at-requires : tie.Need-byte-at-requires Inv-loop μ-loop
+byte-at-requires c κs = search needs
 
 array-write-bytes : tie.Need-array-write-bytes Inv-loop μ-loop
 array-write-bytes c = search needs
@@ -32,14 +37,15 @@ loop-again c = search needs
 returns : tie.Need-returns Inv-loop μ-loop
 returns c = search needs
 
-pub eight-times-spec : {M : Type 1} → statement M
-eight-times-spec =
+pub bytes-of-spec : {M : Type 1} → statement M
+bytes-of-spec =
     tie.close
     (tie.spec
     Inv-loop
     μ-loop
     loop-holds
-    array-read-bytes
+    mul-byte-at
+    byte-at-requires
     array-write-bytes
     add-i
     loop-less

@@ -1,24 +1,23 @@
+-- i is at most 128, and the array keeps its length.
+-- Assumes nothing.
 use mathlib.Core.Path.{_≡_}
 use Prim.Native.Nat.{_≤_, _-_}
 use lib.ListN.{length}
 use borrow.Author.Needs.{needs}
-use Rattle.vectors.proofs.key_of.Statement.{statement}
-use Rattle.vectors.proofs.key_of.Tie as tie
+use Rattle.vectors.proofs.fips197.eight_times.Statement.{statement}
+use Rattle.vectors.proofs.fips197.eight_times.Tie as tie
 
 abbrev Inv-loop : tie.InvT-loop
-Inv-loop text bytes₀ i₀ bytes i = (i ≤ 32) × (length bytes ≡ 32)
+Inv-loop block bytes₀ i₀ bytes i = (i ≤ 128) × (length bytes ≡ 128)
 
 abbrev μ-loop : tie.MeasureT-loop
-μ-loop text bytes₀ i₀ bytes i = 32 - i
+μ-loop block bytes₀ i₀ bytes i = 128 - i
 
 loop-holds : tie.Need-loop-holds Inv-loop μ-loop
 loop-holds c = search needs
 
-mul-byte-at : tie.Need-mul-byte-at Inv-loop μ-loop
-mul-byte-at c = search needs
-
-byte-at-requires : tie.Need-byte-at-requires Inv-loop μ-loop
-byte-at-requires c κs = search needs
+array-read-bytes : tie.Need-array-read-bytes Inv-loop μ-loop
+array-read-bytes c = search needs
 
 array-write-bytes : tie.Need-array-write-bytes Inv-loop μ-loop
 array-write-bytes c = search needs
@@ -32,24 +31,19 @@ loop-less c = search needs
 loop-again : tie.Need-loop-again Inv-loop μ-loop
 loop-again c = search needs
 
-key-from-bytes-requires : tie.Need-key-from-bytes-requires Inv-loop μ-loop
-key-from-bytes-requires c κs = search needs
-
 returns : tie.Need-returns Inv-loop μ-loop
 returns c = search needs
 
-pub key-of-spec : {M : Type 1} → statement M
-key-of-spec =
+pub eight-times-spec : {M : Type 1} → statement M
+eight-times-spec =
     tie.close
     (tie.spec
     Inv-loop
     μ-loop
     loop-holds
-    mul-byte-at
-    byte-at-requires
+    array-read-bytes
     array-write-bytes
     add-i
     loop-less
     loop-again
-    key-from-bytes-requires
     returns)
