@@ -1,5 +1,5 @@
 # make bench     measure the proved libraries against AES and key wrapping in C
-# make examples  print FIPS 197's examples, computed by the proved library
+# make examples  print the papers' examples, computed by the proved libraries
 # make test      all tests, as tests/run.sh has them
 # make clean     remove build/; what rt made is in target/
 

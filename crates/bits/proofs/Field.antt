@@ -3,7 +3,7 @@
 -- Assumes nothing.
 use mathlib.Core.Path.{_≡_, refl, sym, ap, ap₂, subst, _∙_}
 use Prim.Native.Nat.{ℕ, zero, suc, _+_, _*_, _/_, _%_, _^_, _≤_, _<_}
-use native.Mathlib.Nat.{add-zero, add-suc, zero-mul, one-mul, mul-one, add-mul, zero-add, suc-add, mod-lt, mod-eq-of-lt, div-eq-of-lt, pow-suc, mul-assoc, mul-comm, lt-of-le-of-lt, mod-le, div-mul-le-self, le-mul-of-pos-right}
+use native.Mathlib.Nat.{add-zero, zero-mul, one-mul, mul-one, add-mul, zero-add, suc-add, mod-lt, mod-eq-of-lt, div-eq-of-lt, pow-suc, mul-assoc, mul-comm, lt-of-le-of-lt, mod-le, div-mul-le-self, le-mul-of-pos-right}
 use native.Mathlib.Numerals.{add-one}
 use native.Mathlib.Omega.{arith}
 use lib.Arith.{lt-one}

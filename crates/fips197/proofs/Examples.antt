@@ -6,7 +6,7 @@ use Prim.Native.Nat.{ℕ}
 use native.Mathlib.Omega.{arith}
 use Rattle.bits.proofs.Lists.{alike-eq}
 use Rattle.bits.specs.Polynomials.{multiplyBits}
-use Rattle.fips197.specs.Field.{xtime, multiply}
+use Rattle.fips197.specs.Field.{xtime}
 use Rattle.fips197.specs.Sbox.{square, next, inverse, bit, fromBits, affine, sbox}
 use Rattle.fips197.specs.Cipher.{subBytes, shiftRows, matrixRow, mixBy, mixColumns, addRoundKey, round, finalRound, rounds, cipher}
 use Rattle.fips197.specs.KeyExpansion.{wordAt, roundKey, addWords, subWord, rotWord, power, rcon, transformed, nextWord, expanded, keyExpansion}

@@ -1,10 +1,10 @@
 -- POLYVAL, wrapping and unwrapping from their steps.
 -- Assumes nothing.
 use mathlib.Core.Path.{_≡_, refl, sym, ap, ap₂, _∙_}
-use mathlib.Core.Bool.{Bool, true, false, cond}
+use mathlib.Core.Bool.{true, false}
 use mathlib.Core.List.{List, [], _∷_, _++_, map, map-append, flatMap}
 use mathlib.Core.Option.{Option, none, some}
-use Prim.Native.Nat.{ℕ, _+_, _*_, _/_, _≤_}
+use Prim.Native.Nat.{ℕ, _*_, _/_, _≤_}
 use lib.ListN.{length, take}
 use Rattle.bits.specs.Bytes.{xorBytes, alike}
 use Rattle.bits.specs.Words.{leValue}
@@ -16,7 +16,7 @@ use Rattle.fips197.proofs.Undo.{cipher-length}
 use Rattle.rfc8452.specs.Field.{add, dot}
 use Rattle.rfc8452.specs.Polyval.{polyvalFrom}
 use Rattle.polyval.proofs.Folding.{from-more}
-use Rattle.handle.specs.Format.{handle, aadOf, tagOf, ciphertextOf}
+use Rattle.handle.specs.Format.{handle, aadOf, tagOf}
 use Rattle.handle.specs.Wrap.{hashed, clearTop, tag, counterBlocks, keystream, masked, wrapKey, decrypted, unwrapKey}
 use Rattle.handle.proofs.Wrap.{masked-length, handle-aad, handle-tag, handle-ciphertext}
 use Rattle.keywrap.specs.Form.{padded, paddedKey}

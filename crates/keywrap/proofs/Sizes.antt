@@ -1,12 +1,9 @@
 -- What depends on the size of the key: its blocks.
 -- Assumes nothing.
 use mathlib.Core.Path.{_≡_, refl}
-use mathlib.Core.List.{List, map}
-use Prim.Native.Nat.{ℕ, _*_, _/_, _≤_}
+use Prim.Native.Nat.{ℕ, _*_, _≤_}
 use native.Mathlib.Omega.{arith}
 use lib.ListN.{length}
-use Rattle.bits.specs.Blocks.{blocks}
-use Rattle.bits.specs.Words.{leValue}
 use Rattle.aes.specs.Form.{nk, keyBytes}
 use Rattle.aes.specs.declared.Key.{Key}
 use Rattle.aes.specs.declared.KeySize.{KeySize}

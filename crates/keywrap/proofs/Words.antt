@@ -3,7 +3,7 @@
 use mathlib.Core.Path.{_≡_, refl, sym, ap, ap₂, subst, _∙_}
 use mathlib.Core.Bool.{Bool, true, false, _&&_, and-assoc}
 use mathlib.Core.List.{List, [], _∷_, _++_}
-use Prim.Native.Nat.{ℕ, suc, _+_, _/_, _%_, _^_, _<_}
+use Prim.Native.Nat.{ℕ, _+_, _/_, _%_, _^_, _<_}
 use native.Mathlib.Nat.{suc-inj, suc-ne-zero}
 use native.Mathlib.Omega.{arith}
 use lib.Bits.{bitXor}
@@ -11,7 +11,7 @@ use lib.Dec.{T, eqb}
 use lib.ListN.{length}
 use borrow.Author.Tests.{eq-eqb, eqb-true}
 use Rattle.bits.specs.Bytes.{xorBytes, alike}
-use Rattle.bits.specs.Words.{leBytes, leValue}
+use Rattle.bits.specs.Words.{leBytes}
 use Rattle.bits.proofs.Lists.{list4, four, alike-eq, alike-self}
 use Rattle.bits.proofs.Words.{le-xor, le-injective, value-of-le}
 use Rattle.handle.specs.Wrap.{clearTop, setTop, counterBlock}

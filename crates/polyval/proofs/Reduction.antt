@@ -1,19 +1,18 @@
 -- Products that are not yet reduced: a shift by four places with a multiple added, and the division by x^64.
 -- Assumes nothing.
-use mathlib.Core.Path.{_≡_, refl, sym, ap, ap₂, subst, _∙_}
+use mathlib.Core.Path.{_≡_, refl, sym, ap, ap₂, _∙_}
 use Prim.Native.Nat.{ℕ, _+_, _*_, _/_, _%_, _^_, _≤_, _<_}
-use native.Mathlib.Nat.{add-zero, add-assoc, add-mul, mul-assoc, mul-comm, one-mul, mod-lt, mod-eq-of-lt, lt-of-lt-of-le, lt-of-le-of-lt, le-mul-of-pos-right}
+use native.Mathlib.Nat.{add-zero, add-mul, mul-assoc, one-mul, mod-lt, mod-eq-of-lt, lt-of-lt-of-le, lt-of-le-of-lt, le-mul-of-pos-right}
 use native.Mathlib.Omega.{arith}
 use lib.Arith.{digits-div, digits-mod}
-use lib.Bits.{bitXor, xor-lt, xor-shifted, xor-zero-r, xor-comm}
+use lib.Bits.{bitXor, xor-lt, xor-shifted, xor-zero-r}
 use lib.Dec.{eqb→eq, lit<}
 use lib.Pow.{pow-pos, pow-mono, shl-lt, shr-lt}
 use Rattle.bits.specs.Polynomials.{timesPower}
-use Rattle.bits.proofs.Xor.{xor-assoc, interchange}
+use Rattle.bits.proofs.Xor.{xor-assoc}
 use Rattle.bits.proofs.Field.{power-lt, power-xor, power-add, power-shift, power-split, times-lt, times-power, times-xor-right, times-one, times-shift}
 use Rattle.rfc8452.specs.Field.{add, timesX, timesXTo, multiply}
 use Rattle.rfc8452.proofs.Field.{gf128}
-use Rattle.polyval.specs.Form.{num, value}
 use Rattle.polyval.proofs.Halves.{xor-halves, halves-lt, moved-div, moved-mod, moved-halves, moved-high, moved-low}
 
 pub wide : (x : ℕ) → x < 2 ^ 64 → x < 2 ^ 128

@@ -1,6 +1,6 @@
 -- Products four bits at a time: the table of multiples, Horner's rule over it, and the dot product from the two halves.
 -- Assumes nothing.
-use mathlib.Core.Path.{_≡_, refl, sym, ap, ap₂, subst, _∙_}
+use mathlib.Core.Path.{_≡_, sym, ap, ap₂, subst, _∙_}
 use mathlib.Core.List.{List}
 use Prim.Native.Nat.{ℕ, zero, suc, _+_, _*_, _/_, _%_, _^_, _≤_, _<_}
 use native.Mathlib.Nat.{add-mul, mul-comm, mul-assoc, mod-lt, div-eq-of-lt, le-trans, lt-of-lt-of-le, lt-of-le-of-lt, mul-le-mul-left, mul-le-mul-right}
@@ -16,7 +16,6 @@ use Rattle.bits.proofs.Xor.{no-bit}
 use Rattle.bits.proofs.Field.{times-lt, times-zero, times-one, times-shift, times-xor-right, power-xor, power-add, power-shift}
 use Rattle.rfc8452.specs.Field.{add, timesX, timesXTo, multiply, dot}
 use Rattle.rfc8452.proofs.Field.{gf128, dot-is}
-use Rattle.polyval.specs.Form.{Multiples}
 use Rattle.polyval.proofs.Halves.{halves-lt}
 
 -- ---- the table

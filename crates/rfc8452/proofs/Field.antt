@@ -3,7 +3,7 @@
 use mathlib.Core.Path.{_≡_, refl, sym, ap, _∙_}
 use Prim.Native.Nat.{ℕ, _+_, _*_, _/_, _%_, _^_, _<_}
 use lib.Dec.{eqb→eq, lit<}
-use Rattle.bits.specs.Polynomials.{multiplyBits, timesPower}
+use Rattle.bits.specs.Polynomials.{timesPower}
 use Rattle.bits.proofs.Field.{Field, times-lt, times-one, times-comm, times-power, power-times, zero-times, times-zero}
 use Rattle.rfc8452.specs.Field.{add, timesX, timesXTo, multiply, inverseX128, dot}
 

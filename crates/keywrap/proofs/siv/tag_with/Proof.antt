@@ -1,7 +1,5 @@
 -- Assumes nothing.
 use mathlib.Core.Path.{ap, _∙_}
-use mathlib.Core.List.{List}
-use Prim.Native.Nat.{ℕ}
 use Rattle.fips197.specs.Cipher.{cipher}
 use Rattle.aes.specs.Form.{schedule}
 use Rattle.aes.specs.declared.KeySize.the-variants.{Aes256}
