@@ -1,0 +1,56 @@
+-- Assumes nothing.
+use mathlib.Core.Path.{ap, ap₂, _∙_}
+use Prim.Native.Nat.{ℕ, _+_, _*_, _^_, _%_}
+use lib.ListN.{getD}
+use Rattle.isa.specs.Address.{effectiveAddress, baseValue, indexValue}
+use Rattle.isa.proofs.Sums.{sum-mod}
+use borrow.Author.Needs.{needs}
+use Rattle.address.proofs.effective_address.Statement.{statement}
+use Rattle.address.proofs.effective_address.Tie as tie
+
+index-value-requires : tie.Need-index-value-requires
+index-value-requires c κs = search needs
+
+scaled-requires : tie.Need-scaled-requires
+scaled-requires c κs = search needs
+
+base-value-requires : tie.Need-base-value-requires
+base-value-requires c κs = search needs
+
+wrapping-add-u64-requires : tie.Need-wrapping-add-u64-requires
+wrapping-add-u64-requires c κs = search needs
+
+wrapping-add-u64-requires-2 : tie.Need-wrapping-add-u64-requires-2
+wrapping-add-u64-requires-2 c κs = search needs
+
+segment-of-requires : tie.Need-segment-of-requires
+segment-of-requires c κs = search needs
+
+returns : tie.Need-returns
+unfolding effectiveAddress
+returns c =
+    let st = c .before .before .before .before .before .before in
+    let p = st .args .place in
+    let registers : ℕ → ℕ = λ n. getD (st .args .registers .now) n 0 in
+    let b = baseValue registers (st .args .next) (p .base) in
+    let i = indexValue registers (p .index) * 2 ^ (p .scale % 4) in
+    let linear = c .before .wrapping-add-u642 .ensures
+    ∙ ap (λ (x : ℕ). (x + p .displacement) % 2 ^ 64)
+    (c .before .before .wrapping-add-u64 .ensures
+    ∙ ap₂ (λ (x y : ℕ). (x + y) % 2 ^ 64) (c .before .before .before .base-value .ensures)
+    (c .before .before .before .before .scaled .ensures
+    ∙ ap (λ (x : ℕ). x * 2 ^ (p .scale % 4) % 2 ^ 64) (c .before .before .before .before .before .index-value .ensures)))
+    ∙ sum-mod (2 ^ 64) b i (p .displacement) in
+    λ j. record { linear = linear j; segment = c .segment-of .ensures j }
+
+pub effective-address-spec : {M : Type 1} → statement M
+effective-address-spec =
+    tie.close
+    (tie.spec
+    index-value-requires
+    scaled-requires
+    base-value-requires
+    wrapping-add-u64-requires
+    wrapping-add-u64-requires-2
+    segment-of-requires
+    returns)

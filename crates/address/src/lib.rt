@@ -1,0 +1,100 @@
+// Addresses of handles: where a memory place is, and whether every byte of a handle there can be loaded.
+ghost use mathlib.Core.Path.{_≡_};
+ghost use Prim.Native.Nat.{ℕ, _*_, _^_, _%_};
+ghost use lib.ListN.{getD};
+ghost use Rattle.isa.specs.Address as isa;
+ghost use Rattle.isa.specs.Ranges.{handleLength, someNotCanonical, someOutside};
+ghost use Rattle.isa.specs.Ranges as ranges;
+use aes::KeySize;
+use isa::Address;
+use isa::Base;
+use isa::Index;
+use isa::MemoryPlace;
+use isa::Segment;
+
+fn base_value(registers: &[u64; 16], next: u64, base: Base) -> u64
+    ensures { λ r. ⌜ r ≡ isa.baseValue (λ n. getD (now (registers .entry)) n 0) next base ⌝ }
+{
+    match base {
+        Base::None => 0,
+        Base::Rip => next,
+        Base::Register(n) => registers[(n % 16) as usize],
+    }
+}
+
+fn index_value(registers: &[u64; 16], index: Index) -> u64
+    ensures { λ r. ⌜ r ≡ isa.indexValue (λ n. getD (now (registers .entry)) n 0) index ⌝ }
+{
+    match index {
+        Index::None => 0,
+        Index::Register(n) => registers[(n % 16) as usize],
+    }
+}
+
+fn scaled(x: u64, scale: u8) -> u64
+    ensures { λ r. ⌜ r ≡ x * 2 ^ (scale % 4) % 2 ^ 64 ⌝ }
+{
+    x << (scale % 4)
+}
+
+fn segment_of(base: Base) -> Segment
+    ensures { λ r. ⌜ r ≡ isa.segmentOf base ⌝ }
+{
+    match base {
+        Base::None => Segment::Data,
+        Base::Rip => Segment::Data,
+        Base::Register(n) => {
+            if (n == 4) | (n == 5) {
+                return Segment::Stack;
+            }
+            Segment::Data
+        }
+    }
+}
+
+// The address and the segment of a memory place; `next` is the RIP of the next instruction.
+pub fn effective_address(registers: &[u64; 16], next: u64, place: MemoryPlace) -> Address
+    ensures { λ r. ⌜ r ≡ isa.effectiveAddress (λ n. getD (now (registers .entry)) n 0) next place ⌝ }
+{
+    let base = place.base;
+    let index = place.index;
+    let offset = scaled(index_value(registers, index), place.scale);
+    let sum = std::num::wrapping_add_u64(base_value(registers, next, base), offset);
+    Address {
+        linear: std::num::wrapping_add_u64(sum, place.displacement),
+        segment: segment_of(base),
+    }
+}
+
+pub fn handle_length(size: KeySize) -> u64
+    ensures { λ r. ⌜ r ≡ handleLength size ⌝ }
+{
+    match size {
+        KeySize::Aes128 => 48,
+        KeySize::Aes256 => 64,
+    }
+}
+
+pub fn canonical(a: u64) -> bool
+    ensures { λ r. ⌜ r ≡ ranges.canonical a ⌝ }
+{
+    (a / 0x8000_0000_0000 == 0) | (a / 0x8000_0000_0000 == 0x1FFFF)
+}
+
+// A byte of the handle at an address is not canonical.
+pub fn some_not_canonical(a: u64, size: KeySize) -> bool
+    ensures { λ r. ⌜ r ≡ someNotCanonical a (handleLength size) ⌝ }
+{
+    let last = std::num::wrapping_add_u64(a, handle_length(size) - 1);
+    !(canonical(a) & canonical(last))
+}
+
+// A byte of the handle at an address is outside a memory of so many bytes.
+pub fn some_outside(memory: u64, a: u64, size: KeySize) -> bool
+    ensures { λ r. ⌜ r ≡ someOutside memory a (handleLength size) ⌝ }
+{
+    if memory < a {
+        return true;
+    }
+    memory - a < handle_length(size)
+}

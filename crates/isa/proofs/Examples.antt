@@ -1,0 +1,45 @@
+-- The scope's settled examples of strings: K4 to K7.
+-- Assumes nothing.
+use mathlib.Core.Path.{_≡_, refl}
+use mathlib.Core.Bool.{false}
+use mathlib.Core.List.{List, [], _∷_}
+use Prim.Native.Nat.{ℕ}
+use Rattle.aes.specs.declared.Direction.the-variants.{Encrypt, Decrypt}
+use Rattle.aes.specs.declared.KeySize.the-variants.{Aes256}
+use Rattle.isa.specs.Decode.{refusal, decode, decodeAt, displacement32, displacementAt, indexOf, sibOf, modrmOf, instructionOf}
+use Rattle.isa.specs.declared.Base.the-variants as base
+use Rattle.isa.specs.declared.Index.the-variants as index
+use Rattle.isa.specs.declared.Operand.the-variants as operand
+use Rattle.isa.specs.declared.Instruction.the-variants as instruction
+use Rattle.isa.specs.declared.Decoded.the-variants as decoded
+
+pub k4-refused : refusal (decode (0xF3 ∷ 0x0F ∷ 0x38 ∷ 0xD8 ∷ 0x20 ∷ [])) ≡ 8
+unfolding decodeAt modrmOf sibOf indexOf displacementAt displacement32 instructionOf
+k4-refused = refl
+
+pub k4-wide : decode (0xF3 ∷ 0x0F ∷ 0x38 ∷ 0xD8 ∷ 0x18 ∷ [])
+    ≡ decoded.Found (instruction.WideUse (record {
+      direction = Decrypt;
+      size = Aes256;
+      handle = operand.Memory (record { base = base.Register 0; index = index.None; scale = 0; displacement = 0 });
+    })) false 5
+unfolding decodeAt modrmOf sibOf indexOf displacementAt displacement32 instructionOf
+k4-wide = refl
+
+pub k5 : refusal (decode (0xF3 ∷ 0x0F ∷ 0x38 ∷ 0xDD ∷ 0xC0 ∷ [])) ≡ 8
+unfolding decodeAt modrmOf sibOf indexOf displacementAt displacement32 instructionOf
+k5 = refl
+
+pub k6 : decode (0xF3 ∷ 0x44 ∷ 0x0F ∷ 0x38 ∷ 0xDE ∷ 0x05 ∷ 0x10 ∷ 0x00 ∷ 0x00 ∷ 0x00 ∷ [])
+    ≡ decoded.Found (instruction.Use (record {
+      direction = Encrypt;
+      size = Aes256;
+      block = 8;
+      handle = operand.Memory (record { base = base.Rip; index = index.None; scale = 0; displacement = 0x10 });
+    })) false 10
+unfolding decodeAt modrmOf sibOf indexOf displacementAt displacement32 instructionOf
+k6 = refl
+
+pub k7 : refusal (decode []) ≡ 9
+unfolding decodeAt
+k7 = refl

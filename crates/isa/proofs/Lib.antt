@@ -1,0 +1,6 @@
+pub mod Sums
+pub mod Ranges
+pub mod Local
+pub mod Decoding
+pub mod Fitting
+pub mod Examples

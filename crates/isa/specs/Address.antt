@@ -1,0 +1,39 @@
+-- Intel's 64-bit addressing (SDM volume 1, 3.7.5; volume 2, 2.1.5 and 2.2.1): the address that a memory place names, over the sixteen general registers and
+-- the RIP of the next instruction.
+-- Assumes nothing.
+use Prim.Native.Nat.{ℕ, _+_, _*_, _^_, _%_}
+use mathlib.Core.Bool.{cond, _||_}
+use lib.Dec.{eqb}
+use Rattle.isa.specs.declared.Base.{Base}
+use Rattle.isa.specs.declared.Base.the-variants as base
+use Rattle.isa.specs.declared.Index.{Index}
+use Rattle.isa.specs.declared.Index.the-variants as index
+use Rattle.isa.specs.declared.MemoryPlace.{MemoryPlace}
+use Rattle.isa.specs.declared.Segment.{Segment}
+use Rattle.isa.specs.declared.Segment.the-variants.{Data, Stack}
+use Rattle.isa.specs.declared.Address.{Address}
+
+-- what the base adds; RIP is that of the next instruction
+abbrev pub baseValue : (ℕ → ℕ) → ℕ → Base → ℕ
+baseValue registers next base.None = 0
+baseValue registers next base.Rip = next
+baseValue registers next (base.Register n) = registers (n % 16)
+
+-- what the index adds, before it is scaled
+abbrev pub indexValue : (ℕ → ℕ) → Index → ℕ
+indexValue registers index.None = 0
+indexValue registers (index.Register n) = registers (n % 16)
+
+-- RSP and RBP as the base mean the stack segment
+abbrev pub segmentOf : Base → Segment
+segmentOf base.None = Data
+segmentOf base.Rip = Data
+segmentOf (base.Register n) = cond (eqb n 4 || eqb n 5) Stack Data
+
+-- modulo 2^64
+unfoldable pub effectiveAddress : (ℕ → ℕ) → ℕ → MemoryPlace → Address
+effectiveAddress registers next p =
+    record {
+      linear = (baseValue registers next (p .base) + indexValue registers (p .index) * 2 ^ (p .scale % 4) + p .displacement) % 2 ^ 64;
+      segment = segmentOf (p .base);
+    }

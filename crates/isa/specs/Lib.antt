@@ -1,0 +1,4 @@
+pub mod Address
+pub mod Ranges
+pub mod Decode
+pub mod Fitting
