@@ -1,0 +1,48 @@
+-- i is at most the length.
+-- Assumes nothing.
+use Prim.Native.Nat.{_≤_, _-_}
+use lib.ListN.{length}
+use borrow.Author.Needs.{needs}
+use Rattle.disassemble.proofs.line.through.Statement.{statement}
+use Rattle.disassemble.proofs.line.through.Tie as tie
+
+abbrev Inv-loop : tie.InvT-loop
+Inv-loop text l₀ i₀ l i = i ≤ length text
+
+abbrev μ-loop : tie.MeasureT-loop
+μ-loop text l₀ i₀ l i = length text - i
+
+loop-holds : tie.Need-loop-holds Inv-loop μ-loop
+loop-holds c = search needs
+
+shared-slice-read-with : tie.Need-shared-slice-read-with Inv-loop μ-loop
+shared-slice-read-with c = search needs
+
+with-requires : tie.Need-with-requires Inv-loop μ-loop
+with-requires c κs = search needs
+
+add-i : tie.Need-add-i Inv-loop μ-loop
+add-i c = search needs
+
+loop-less : tie.Need-loop-less Inv-loop μ-loop
+loop-less c = search needs
+
+loop-again : tie.Need-loop-again Inv-loop μ-loop
+loop-again c = search needs
+
+returns : tie.Need-returns Inv-loop μ-loop
+returns c = search needs
+
+pub through-spec : {M : Type 1} → statement M
+through-spec =
+    tie.close
+    (tie.spec
+    Inv-loop
+    μ-loop
+    loop-holds
+    shared-slice-read-with
+    with-requires
+    add-i
+    loop-less
+    loop-again
+    returns)
