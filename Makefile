@@ -1,6 +1,7 @@
 # make bench     measure the proved libraries against AES and key wrapping in C
 # make examples  print the papers' examples, computed by the proved libraries
 # make test      all tests, as tests/run.sh has them
+# make test-decoder  compare the proved decoder with GNU objdump, on about a million strings
 # make clean     remove build/; what rt made is in target/
 
 CC = gcc
@@ -14,7 +15,7 @@ BASELINE = measure aes_bytes aes_ttables
 AES = aes $(BASELINE)
 KEYWRAP = keywrap keywrap_bytes keywrap_ttables $(BASELINE)
 
-.PHONY: bench examples test clean
+.PHONY: bench examples test test-decoder clean
 
 bench: build/bench_aes build/bench_keywrap
 	./build/bench_aes
@@ -43,6 +44,11 @@ examples:
 
 test:
 	tests/run.sh
+
+# rt puts a program that it proved into target/bin
+test-decoder:
+	rt check disassemble
+	python3 tests/decoder.py --objdump
 
 clean:
 	rm -rf build

@@ -5,4 +5,5 @@ cd "$(dirname "$0")/.."
 
 python3 tests/vectors_stdout.py --check
 python3 tests/key_locker.py
+python3 tests/decoder.py --check
 exec rt ci

@@ -1,7 +1,7 @@
 // A line of hexadecimal digits, one character after the other.
 //
-// Only the first 32 digits of a line count: no instruction has more than 12 bytes, and the bytes after it are ignored. A line with another character than
-// 0 to 9, a to f and A to F before these are read, or with half a byte at its end, is answered by "not hexadecimal".
+// Only the first 32 characters of a line count: no instruction has more than 12 bytes, and bytes after an instruction are ignored. A line that has among
+// them another character than 0 to 9, a to f and A to F, or that ends with half a byte, is answered by "not hexadecimal".
 use crate::text::print;
 use crate::text::print_decoded;
 use decoder::string::decode_at;
