@@ -52,12 +52,13 @@ fn segment_of(base: Base) -> Segment
     }
 }
 
-// The address and the segment of a memory place; `next` is the RIP of the next instruction.
-pub fn effective_address(registers: &[u64; 16], next: u64, place: MemoryPlace) -> Address
-    ensures { λ r. ⌜ r ≡ isa.effectiveAddress (λ n. getD (now (registers .entry)) n 0) next place ⌝ }
+// The address and the segment of a memory place, for an instruction of so many bytes at `rip`.
+pub fn effective_address(registers: &[u64; 16], rip: u64, bytes: u64, place: MemoryPlace) -> Address
+    ensures { λ r. ⌜ r ≡ isa.effectiveAddress (λ n. getD (now (registers .entry)) n 0) rip bytes place ⌝ }
 {
     let base = place.base;
     let index = place.index;
+    let next = std::num::wrapping_add_u64(rip, bytes);
     let offset = scaled(index_value(registers, index), place.scale);
     let sum = std::num::wrapping_add_u64(base_value(registers, next, base), offset);
     Address {

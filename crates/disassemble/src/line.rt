@@ -4,7 +4,7 @@
 // them another character than 0 to 9, a to f and A to F, or that ends with half a byte, is answered by "not hexadecimal".
 use crate::text::print;
 use crate::text::print_decoded;
-use decoder::string::decode_at;
+use reader::decode;
 
 pub struct Line {
     pub bytes: [u8; 16],
@@ -52,7 +52,7 @@ fn print_line(line: Line) {
     }
     let bytes = line.bytes;
     let n = io::count((line.digits / 2) as isize, &bytes);
-    print_decoded(decode_at(&bytes[..n], 0));
+    print_decoded(decode(&bytes[..n]));
 }
 
 // The line with one more character.

@@ -1,5 +1,5 @@
--- Intel's 64-bit addressing (SDM volume 1, 3.7.5; volume 2, 2.1.5 and 2.2.1): the address that a memory place names, over the sixteen general registers and
--- the RIP of the next instruction.
+-- Intel's 64-bit addressing (SDM volume 1, 3.7.5; volume 2, 2.1.5 and 2.2.1): the address that a memory place names, over the sixteen general registers,
+-- RIP and the length of the instruction.
 -- Assumes nothing.
 use Prim.Native.Nat.{ℕ, _+_, _*_, _^_, _%_}
 use mathlib.Core.Bool.{cond, _||_}
@@ -30,10 +30,14 @@ segmentOf base.None = Data
 segmentOf base.Rip = Data
 segmentOf (base.Register n) = cond (eqb n 4 || eqb n 5) Stack Data
 
--- modulo 2^64
-unfoldable pub effectiveAddress : (ℕ → ℕ) → ℕ → MemoryPlace → Address
-effectiveAddress registers next p =
+-- the RIP of the next instruction, which is so many bytes on
+abbrev pub nextRip : ℕ → ℕ → ℕ
+nextRip rip bytes = (rip + bytes) % 2 ^ 64
+
+-- modulo 2^64, for an instruction of so many bytes at RIP
+unfoldable pub effectiveAddress : (ℕ → ℕ) → ℕ → ℕ → MemoryPlace → Address
+effectiveAddress registers rip bytes p =
     record {
-      linear = (baseValue registers next (p .base) + indexValue registers (p .index) * 2 ^ (p .scale % 4) + p .displacement) % 2 ^ 64;
+      linear = (baseValue registers (nextRip rip bytes) (p .base) + indexValue registers (p .index) * 2 ^ (p .scale % 4) + p .displacement) % 2 ^ 64;
       segment = segmentOf (p .base);
     }

@@ -2,11 +2,14 @@
 use mathlib.Core.Path.{ap, ap₂, _∙_}
 use Prim.Native.Nat.{ℕ, _+_, _*_, _^_, _%_}
 use lib.ListN.{getD}
-use Rattle.isa.specs.Address.{effectiveAddress, baseValue, indexValue}
+use Rattle.isa.specs.Address.{effectiveAddress, nextRip, baseValue, indexValue}
 use Rattle.isa.proofs.Sums.{sum-mod}
 use borrow.Author.Needs.{needs}
 use Rattle.address.proofs.effective_address.Statement.{statement}
 use Rattle.address.proofs.effective_address.Tie as tie
+
+wrapping-add-u64-requires : tie.Need-wrapping-add-u64-requires
+wrapping-add-u64-requires c κs = search needs
 
 index-value-requires : tie.Need-index-value-requires
 index-value-requires c κs = search needs
@@ -17,11 +20,11 @@ scaled-requires c κs = search needs
 base-value-requires : tie.Need-base-value-requires
 base-value-requires c κs = search needs
 
-wrapping-add-u64-requires : tie.Need-wrapping-add-u64-requires
-wrapping-add-u64-requires c κs = search needs
-
 wrapping-add-u64-requires-2 : tie.Need-wrapping-add-u64-requires-2
 wrapping-add-u64-requires-2 c κs = search needs
+
+wrapping-add-u64-requires-3 : tie.Need-wrapping-add-u64-requires-3
+wrapping-add-u64-requires-3 c κs = search needs
 
 segment-of-requires : tie.Need-segment-of-requires
 segment-of-requires c κs = search needs
@@ -29,15 +32,16 @@ segment-of-requires c κs = search needs
 returns : tie.Need-returns
 unfolding effectiveAddress
 returns c =
-    let st = c .before .before .before .before .before .before in
+    let st = c .before .before .before .before .before .before .before in
     let p = st .args .place in
     let registers : ℕ → ℕ = λ n. getD (st .args .registers .now) n 0 in
-    let b = baseValue registers (st .args .next) (p .base) in
+    let b = baseValue registers (nextRip (st .args .rip) (st .args .bytes)) (p .base) in
     let i = indexValue registers (p .index) * 2 ^ (p .scale % 4) in
-    let linear = c .before .wrapping-add-u642 .ensures
+    let base = c .before .before .before .base-value .ensures ∙ ap (λ (n : ℕ). baseValue registers n (p .base)) (c .before .before .before .before .before .before .wrapping-add-u64 .ensures) in
+    let linear = c .before .wrapping-add-u643 .ensures
     ∙ ap (λ (x : ℕ). (x + p .displacement) % 2 ^ 64)
-    (c .before .before .wrapping-add-u64 .ensures
-    ∙ ap₂ (λ (x y : ℕ). (x + y) % 2 ^ 64) (c .before .before .before .base-value .ensures)
+    (c .before .before .wrapping-add-u642 .ensures
+    ∙ ap₂ (λ (x y : ℕ). (x + y) % 2 ^ 64) base
     (c .before .before .before .before .scaled .ensures
     ∙ ap (λ (x : ℕ). x * 2 ^ (p .scale % 4) % 2 ^ 64) (c .before .before .before .before .before .index-value .ensures)))
     ∙ sum-mod (2 ^ 64) b i (p .displacement) in
@@ -47,10 +51,11 @@ pub effective-address-spec : {M : Type 1} → statement M
 effective-address-spec =
     tie.close
     (tie.spec
+    wrapping-add-u64-requires
     index-value-requires
     scaled-requires
     base-value-requires
-    wrapping-add-u64-requires
     wrapping-add-u64-requires-2
+    wrapping-add-u64-requires-3
     segment-of-requires
     returns)
