@@ -296,7 +296,17 @@ def compare(what, strings, expected, found):
     print(f"{len(found)} strings, {refused} of them refused: disassemble says what {what} says")
 
 
+def listed():
+    """The instructions among the lines of the vector file, without the bytes after them."""
+    for line in vectors():
+        length = re.search("; ([0-9]+) bytes$", answer(line))
+        if length:
+            yield bytes.fromhex(line[:32])[: int(length[1])]
+
+
 def test():
+    examples = list(listed())
+    compare("objdump", examples, (same_text(*line) for line in objdump(examples)), disassemble(examples))
     rng = random.Random(20201)
     strings = list(accepted(rng))
     # bytes after an instruction are ignored, however many
