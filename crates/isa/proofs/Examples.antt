@@ -28,6 +28,16 @@ pub k4-wide : decode (0xF3 ∷ 0x0F ∷ 0x38 ∷ 0xD8 ∷ 0x18 ∷ [])
 unfolding decodeAt modrmOf sibOf indexOf displacementAt displacement32 instructionOf
 k4-wide = refl
 
+-- the wide forms ignore REX.R
+pub wide-rex-r : decode (0xF3 ∷ 0x44 ∷ 0x0F ∷ 0x38 ∷ 0xD8 ∷ 0x18 ∷ [])
+    ≡ decoded.Found (instruction.WideUse (record {
+      direction = Decrypt;
+      size = Aes256;
+      handle = operand.Memory (record { base = base.Register 0; index = index.None; scale = 0; displacement = 0 });
+    })) false 6
+unfolding decodeAt modrmOf sibOf indexOf displacementAt displacement32 instructionOf
+wide-rex-r = refl
+
 pub k5 : refusal (decode (0xF3 ∷ 0x0F ∷ 0x38 ∷ 0xDD ∷ 0xC0 ∷ [])) ≡ 8
 unfolding decodeAt modrmOf sibOf indexOf displacementAt displacement32 instructionOf
 k5 = refl
