@@ -44,7 +44,7 @@ fn segment_of(base: Base) -> Segment
         Base::None => Segment::Data,
         Base::Rip => Segment::Data,
         Base::Register(n) => {
-            if (n == 4) | (n == 5) {
+            if (n % 16 == 4) | (n % 16 == 5) {
                 return Segment::Stack;
             }
             Segment::Data

@@ -11,6 +11,7 @@ use Rattle.bits.specs.Words.{leBytes, leValue}
 abbrev pub handle : List ℕ → List ℕ → List ℕ → List ℕ
 handle aad tag ciphertext = aad ++ tag ++ ciphertext
 
+-- 1.4: the parts of a handle
 abbrev pub aadOf : List ℕ → List ℕ
 aadOf h = take 16 h
 

@@ -37,7 +37,7 @@ tag integrity encryption aad key = encrypt 8 encryption (clearTop (hashed integr
 unfoldable pub counterBlock : List ℕ → ℕ → List ℕ
 counterBlock t i = leBytes 4 (leValue (take 4 t) + i) ++ drop 4 (setTop t)
 
--- n counter blocks from the i-th on
+-- RFC 8452 section 4: n counter blocks from the i-th on
 abbrev pub counterBlocks : List ℕ → ℕ → ℕ → List (List ℕ)
 counterBlocks t i zero = []
 counterBlocks t i (suc n) = counterBlock t i ∷ counterBlocks t (i + 1) n

@@ -13,28 +13,28 @@ use Rattle.isa.specs.declared.Segment.{Segment}
 use Rattle.isa.specs.declared.Segment.the-variants.{Data, Stack}
 use Rattle.isa.specs.declared.Address.{Address}
 
--- what the base adds; RIP is that of the next instruction
+-- SDM volume 1, 3.7.5: what the base adds; RIP is that of the next instruction. A register is one of sixteen.
 abbrev pub baseValue : (ℕ → ℕ) → ℕ → Base → ℕ
 baseValue registers next base.None = 0
 baseValue registers next base.Rip = next
 baseValue registers next (base.Register n) = registers (n % 16)
 
--- what the index adds, before it is scaled
+-- SDM volume 1, 3.7.5: what the index adds, before it is scaled
 abbrev pub indexValue : (ℕ → ℕ) → Index → ℕ
 indexValue registers index.None = 0
 indexValue registers (index.Register n) = registers (n % 16)
 
--- RSP and RBP as the base mean the stack segment
+-- SDM volume 1, 3.7.4; the scope, "Instruction strings": RSP and RBP as the base mean the stack segment
 abbrev pub segmentOf : Base → Segment
 segmentOf base.None = Data
 segmentOf base.Rip = Data
-segmentOf (base.Register n) = cond (eqb n 4 || eqb n 5) Stack Data
+segmentOf (base.Register n) = cond (eqb (n % 16) 4 || eqb (n % 16) 5) Stack Data
 
--- the RIP of the next instruction, which is so many bytes on
+-- SDM volume 2, 2.2.1.6: the RIP of the next instruction, which is so many bytes on
 abbrev pub nextRip : ℕ → ℕ → ℕ
 nextRip rip bytes = (rip + bytes) % 2 ^ 64
 
--- modulo 2^64, for an instruction of so many bytes at RIP
+-- the scope, "Instruction strings": modulo 2^64, for an instruction of so many bytes at RIP
 unfoldable pub effectiveAddress : (ℕ → ℕ) → ℕ → ℕ → MemoryPlace → Address
 effectiveAddress registers rip bytes p =
     record {

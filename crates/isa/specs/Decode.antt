@@ -2,10 +2,11 @@
 -- REX byte, 0F 38, opcode, ModRM, SIB and displacement, read left to right.
 -- Assumes nothing.
 use mathlib.Core.Bool.{Bool, true, false, cond, _&&_, _||_}
-use mathlib.Core.List.{List}
-use Prim.Native.Nat.{ℕ, _+_, _*_, _/_, _%_}
+use mathlib.Core.List.{List, [], _∷_}
+use Prim.Native.Nat.{ℕ, _+_, _/_, _%_}
 use lib.Dec.{eqb, leb, ltb}
 use lib.ListN.{length, getD}
+use Rattle.bits.specs.Words.{leValue}
 use Rattle.aes.specs.declared.Direction.{Direction}
 use Rattle.aes.specs.declared.Direction.the-variants.{Encrypt, Decrypt}
 use Rattle.aes.specs.declared.KeySize.{KeySize}
@@ -34,17 +35,17 @@ refusal (decoded.Found what lock next) = 0
 refusal decoded.BadByte = 8
 refusal decoded.EndOfString = 9
 
--- the byte at a position, if there is one
+-- the scope, "Instruction strings": the byte at a position, if there is one
 abbrev pub byteAt : List ℕ → ℕ → Step
 byteAt s at = cond (ltb at (length s)) (step.Byte (getD s at 0) (at + 1)) step.End
 
 -- ---- ModRM, SIB and displacement
 
--- a register number of three bits, extended by a bit of REX
+-- SDM volume 2, 2.2.1.2: a register number of three bits, extended by a bit of REX
 abbrev pub extended : Bool → ℕ → ℕ
 extended bit n = cond bit (n % 8 + 8) (n % 8)
 
--- sign extension to 64 bits
+-- SDM volume 2, 2.2.1.3: displacements are sign-extended to 64 bits
 abbrev pub signed8 : ℕ → ℕ
 signed8 b = cond (ltb b 0x80) b (b + 0xFFFF_FFFF_FFFF_FF00)
 
@@ -55,9 +56,9 @@ signed32 w = cond (ltb w 0x8000_0000) w (w + 0xFFFF_FFFF_0000_0000)
 abbrev pub displacement8 : List ℕ → ℕ → Displacement
 displacement8 s at = cond (ltb at (length s)) (displacement.Found (signed8 (getD s at 0)) (at + 1)) displacement.End
 
--- four bytes, the first lowest
+-- the number of four bytes
 abbrev pub word32 : ℕ → ℕ → ℕ → ℕ → ℕ
-word32 a b c d = a + b * 0x100 + c * 0x1_0000 + d * 0x100_0000
+word32 a b c d = leValue (a ∷ b ∷ c ∷ d ∷ [])
 
 -- four bytes, sign-extended
 unfoldable pub displacement32 : List ℕ → ℕ → Displacement
@@ -66,7 +67,7 @@ displacement32 s at =
     (displacement.Found (signed32 (word32 (getD s at 0) (getD s (at + 1) 0) (getD s (at + 2) 0) (getD s (at + 3) 0))) (at + 4))
     displacement.End
 
--- as mod says: one byte at 1, four at 2, else none
+-- SDM volume 2, table 2-2: as mod says: one byte at 1, four at 2, else none
 unfoldable pub displacementAt : List ℕ → ℕ → ℕ → Displacement
 displacementAt s at mode = cond (eqb mode 1) (displacement8 s at) (cond (eqb mode 2) (displacement32 s at) (displacement.Found 0 at))
 
@@ -76,11 +77,11 @@ placed reg b i scale (displacement.Found d next) =
     operands.Found reg (operand.Memory (record { base = b; index = i; scale = scale; displacement = d })) next
 placed reg b i scale displacement.End = operands.End
 
--- SIB: index 4 is none, but with REX.X it is R12
+-- SDM volume 2, table 2-3 and 2.2.1.2: SIB index 4 is none, but with REX.X it is R12
 unfoldable pub indexOf : Prefixes → ℕ → Index
 indexOf p sib = cond (eqb (extended (p .x) (sib / 8)) 4) index.None (index.Register (extended (p .x) (sib / 8)))
 
--- SIB: base 5 with mod 0 is none, with a displacement of four bytes, whatever REX.B
+-- SDM volume 2, table 2-3: SIB base 5 with mod 0 is none, with a displacement of four bytes, whatever REX.B
 unfoldable pub sibOf : List ℕ → ℕ → Prefixes → ℕ → ℕ → ℕ → Operands
 sibOf s at p mode reg sib =
     cond (eqb mode 0 && eqb (sib % 8) 5)
@@ -91,7 +92,7 @@ abbrev pub sibFrom : List ℕ → Prefixes → ℕ → ℕ → Step → Operands
 sibFrom s p mode reg (step.Byte sib next) = sibOf s next p mode reg sib
 sibFrom s p mode reg step.End = operands.End
 
--- ModRM: mod 3 is a register; r/m 4 has a SIB byte; mod 0 with r/m 5 is relative to RIP, whatever REX.B
+-- SDM volume 2, table 2-2 and 2.2.1.6: mod 3 is a register; r/m 4 has a SIB byte; mod 0 with r/m 5 is relative to RIP, whatever REX.B
 unfoldable pub modrmOf : List ℕ → ℕ → Prefixes → ℕ → Operands
 modrmOf s at p m =
     cond (eqb (m / 64) 3) (operands.Found (extended (p .r) (m / 8)) (operand.Register (extended (p .b) m)) at)
@@ -102,11 +103,11 @@ modrmOf s at p m =
 
 -- ---- the instructions
 
--- DC to DF, D8, FA and FB
+-- the scope, "Instruction strings": the opcodes DC to DF, D8, FA and FB
 abbrev pub opcode : ℕ → Bool
 opcode op = leb 0xDC op && leb op 0xDF || eqb op 0xD8 || eqb op 0xFA || eqb op 0xFB
 
--- the ModRM bytes that each has: DC any; DD to DF with mod not 3; D8 with mod not 3 and reg 0 to 3; FA and FB with mod 3
+-- the scope, "Instruction strings": the ModRM bytes that each has: DC any; DD to DF with mod not 3; D8 with mod not 3 and reg 0 to 3; FA and FB with mod 3
 abbrev pub allowed : ℕ → ℕ → Bool
 allowed op m = eqb op 0xDC || leb 0xDD op && leb op 0xDF && ltb m 0xC0 || eqb op 0xD8 && ltb m 0xC0 && ltb (m / 8 % 8) 4 || leb 0xFA op && leb 0xC0 m
 
@@ -117,6 +118,7 @@ directionOf n = cond (eqb (n % 2) 0) Encrypt Decrypt
 abbrev pub sizeOf : ℕ → KeySize
 sizeOf n = cond (eqb (n % 2) 0) Aes128 Aes256
 
+-- the scope, "Instruction strings": an instruction carries the operands that its kind has
 unfoldable pub instructionOf : ℕ → ℕ → ℕ → Operand → Instruction
 instructionOf op m reg rm =
     cond (eqb op 0xD8) (instruction.WideUse (record { direction = directionOf (m / 8); size = sizeOf (m / 16); handle = rm }))

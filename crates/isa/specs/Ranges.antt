@@ -14,15 +14,15 @@ canonical a = eqb (a / 2 ^ 47) 0 || eqb (a / 2 ^ 47) (2 ^ 17 - 1)
 abbrev pub handleLength : KeySize → ℕ
 handleLength size = 32 + 4 * nk size
 
--- the test passes at one of the n bytes from a on
+-- the scope, "Turned back" 12 and 14: the test passes at one of the n bytes from a on, each with an address of its own
 abbrev pub anyByte : (ℕ → Bool) → ℕ → ℕ → Bool
 anyByte test a zero = false
 anyByte test a (suc n) = test (a % 2 ^ 64) || anyByte test (a + 1) n
 
--- a byte that is not canonical
+-- the scope, "Turned back" 12 and 13: a byte that is not canonical
 unfoldable pub someNotCanonical : ℕ → ℕ → Bool
 someNotCanonical a n = anyByte (λ b. not (canonical b)) a n
 
--- a byte outside a memory of so many bytes
+-- the scope, "Turned back" 14: a byte outside a memory of so many bytes
 unfoldable pub someOutside : ℕ → ℕ → ℕ → Bool
 someOutside memory a n = anyByte (leb memory) a n

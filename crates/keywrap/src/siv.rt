@@ -1,4 +1,4 @@
-// Tag and keystream, by a lent S-box and the schedule of the encryption key.
+// Wrapping and unwrapping: tag and keystream by a lent S-box and the schedule of the encryption key.
 ghost use mathlib.Core.Path.{_≡_};
 ghost use mathlib.Core.List.{flatMap};
 ghost use Prim.Native.Nat.{ℕ, _/_};
@@ -9,12 +9,17 @@ ghost use Rattle.fips197.specs.Sbox.{sbox, TableOf};
 ghost use Rattle.aes.specs.Form.{bytesOf, nr, keyBytes, schedule};
 ghost use Rattle.aes.specs.declared.KeySize.the-variants.{Aes256};
 ghost use Rattle.handle.specs.Wrap as handle;
-ghost use Rattle.keywrap.specs.Form.{wholeKey, padded};
+ghost use Rattle.handle.specs.Wrap.{wrapKey, unwrapKey};
+ghost use Rattle.keywrap.specs.Form.{handleBytes, wholeKey, wholeHandle, padded, opened, paddedKey};
+use crate::Handle;
+use crate::Unwrapped;
 use crate::hash::hashed;
 use aes::Block;
 use aes::Key;
 use aes::KeySize;
 use aes::cipher::encrypt_with;
+use aes_key::expand_with;
+use sbox::sbox_table;
 
 fn clear_top(b: Block) -> Block
     ensures { λ r. ⌜ bytesOf r ≡ handle.clearTop (bytesOf b) ⌝ }
@@ -50,13 +55,13 @@ fn xor_block(a: Block, b: Block) -> Block
     }
 }
 
-pub fn same(a: Block, b: Block) -> bool
+fn same(a: Block, b: Block) -> bool
     ensures { λ r. ⌜ r ≡ alike (bytesOf a) (bytesOf b) ⌝ }
 {
     (a.a == b.a) & (a.b == b.b) & (a.c == b.c) & (a.d == b.d)
 }
 
-pub fn tag_with(
+fn tag_with(
     t: &[u8; 256],
     w: &[u32; 60],
     integrity: Block,
@@ -83,7 +88,7 @@ fn mask_block(t: &[u8; 256], w: &[u32; 60], tag: Block, i: u32, b: Block) -> Blo
 }
 
 // A key, or its ciphertext, XORed with the keystream.
-pub fn mask_with(t: &[u8; 256], w: &[u32; 60], tag: Block, size: KeySize, key: Key) -> Key
+fn mask_with(t: &[u8; 256], w: &[u32; 60], tag: Block, size: KeySize, key: Key) -> Key
     requires { ⌜ TableOf sbox (now t) ⌝ }
     ensures { λ r. ⌜ wholeKey r ≡ padded 32 (xorBytes (keyBytes size key) (flatMap (cipher (schedule Aes256 (now (w .entry))) (nr Aes256)) (handle.counterBlocks (bytesOf tag) 0 (length (keyBytes size key) / 16)))) ⌝ }
 {
@@ -103,4 +108,33 @@ pub fn mask_with(t: &[u8; 256], w: &[u32; 60], tag: Block, size: KeySize, key: K
             high: mask_block(t, w, tag, 1, key.high),
         },
     }
+}
+
+// WrapKey128 and WrapKey256.
+pub fn wrap(size: KeySize, integrity: Block, encryption: Key, aad: Block, key: Key) -> Handle
+    ensures { λ r. ⌜ wholeHandle r ≡ padded 64 (wrapKey (bytesOf integrity) (keyBytes Aes256 encryption) (bytesOf aad) (keyBytes size key)) ⌝ }
+{
+    let t = sbox_table();
+    let w = expand_with(&t, KeySize::Aes256, encryption);
+    let tag = tag_with(&t, &w, integrity, aad, size, key);
+    let ciphertext = mask_with(&t, &w, tag, size, key);
+    Handle {
+        aad,
+        tag,
+        ciphertext,
+    }
+}
+
+// UnwrapKeyAndAuthenticate384 and UnwrapKeyAndAuthenticate512.
+pub fn unwrap(size: KeySize, integrity: Block, encryption: Key, handle: Handle) -> Unwrapped
+    ensures { λ r. ⌜ opened r ≡ paddedKey (unwrapKey (bytesOf integrity) (keyBytes Aes256 encryption) (handleBytes size handle)) ⌝ }
+{
+    let t = sbox_table();
+    let w = expand_with(&t, KeySize::Aes256, encryption);
+    let key = mask_with(&t, &w, handle.tag, size, handle.ciphertext);
+    let tag = tag_with(&t, &w, integrity, handle.aad, size, key);
+    if same(tag, handle.tag) {
+        return Unwrapped::Key(key);
+    }
+    Unwrapped::Refused
 }

@@ -98,7 +98,7 @@ pub extern "C" fn keywrap_wrap(
     let e = *encryption;
     let a = *aad;
     let k = *key;
-    let h = keywrap::wrap(
+    let h = keywrap::siv::wrap(
         key_size(size),
         from_bytes(i),
         key_from_bytes(e),
@@ -122,7 +122,7 @@ pub extern "C" fn keywrap_unwrap(
     let i = *integrity;
     let e = *encryption;
     let h = *handle;
-    let u = keywrap::unwrap(
+    let u = keywrap::siv::unwrap(
         key_size(size),
         from_bytes(i),
         key_from_bytes(e),

@@ -33,8 +33,7 @@ fn product(t: &[u64; 32], x: u64) -> Wide
     let mut s: u64 = 64;
     while 0 < s {
         s -= 4;
-        let n = (x >> s) % 16;
-        let v = shift_add(w, entry(t, n as usize));
+        let v = shift_add(w, entry(t, x >> s));
         w = v;
     }
     w

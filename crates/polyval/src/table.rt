@@ -1,16 +1,17 @@
 // The multiples of the hash key that a product of four bits at a time looks up.
 ghost use mathlib.Core.Path.{_≡_};
-ghost use Prim.Native.Nat.{_+_, _*_, _^_, _<_};
+ghost use Prim.Native.Nat.{_+_, _*_, _^_, _%_, _<_};
 ghost use lib.ListN.{getD, set};
 ghost use Rattle.polyval.specs.Form.{num, Multiples};
 use crate::Element;
 use crate::field::add;
 use crate::field::times_x;
 
-pub fn entry(t: &[u64; 32], u: usize) -> Element
-    requires { ⌜ u < 16 ⌝ }
-    ensures { λ r. ⌜ num r ≡ getD (now (t .entry)) (2 * u + 1) 0 * 2 ^ 64 + getD (now (t .entry)) (2 * u) 0 ⌝ }
+// The entry of the low four bits of x.
+pub fn entry(t: &[u64; 32], x: u64) -> Element
+    ensures { λ r. ⌜ num r ≡ getD (now (t .entry)) (2 * (x % 16) + 1) 0 * 2 ^ 64 + getD (now (t .entry)) (2 * (x % 16)) 0 ⌝ }
 {
+    let u = (x % 16) as usize;
     Element {
         lo: t[2 * u],
         hi: t[2 * u + 1],
@@ -33,7 +34,7 @@ pub fn multiples(h: Element) -> [u64; 32]
     t[3] = h.hi;
     let mut i: usize = 1;
     while i < 8 {
-        let even = times_x(entry(&t, i));
+        let even = times_x(entry(&t, i as u64));
         put_entry(&mut t, 2 * i, even);
         put_entry(&mut t, 2 * i + 1, add(even, h));
         i += 1;

@@ -17,7 +17,7 @@ timesX a = add (a * 2 % 2 ^ 128) (a * 2 / 2 ^ 128 * (2 ^ 127 + 2 ^ 126 + 2 ^ 121
 abbrev pub multiply : ℕ → ℕ → ℕ
 multiply a b = multiplyBits timesX 128 a b
 
--- an element times x^n
+-- section 3: an element times x^n
 abbrev pub timesXTo : ℕ → ℕ → ℕ
 timesXTo n a = timesPower timesX n a
 

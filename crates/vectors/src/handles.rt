@@ -24,8 +24,12 @@ fn print_key(size: KeySize, key: Key) {
 
 fn unwrap(name: &[u8], size: KeySize, integrity: &[u8], encryption: &[u8], handle: Handle) {
     start(b"unwrap ", name);
-    let Unwrapped::Key(key) = keywrap::unwrap(size, block_of(integrity), key_of(encryption), handle)
-    else {
+    let Unwrapped::Key(key) = keywrap::siv::unwrap(
+        size,
+        block_of(integrity),
+        key_of(encryption),
+        handle,
+    ) else {
         print(b"none\n");
         return;
     };
@@ -33,7 +37,7 @@ fn unwrap(name: &[u8], size: KeySize, integrity: &[u8], encryption: &[u8], handl
 }
 
 fn handle(name: &[u8], size: KeySize, integrity: &[u8], encryption: &[u8], aad: &[u8], key: &[u8]) {
-    let h = keywrap::wrap(
+    let h = keywrap::siv::wrap(
         size,
         block_of(integrity),
         key_of(encryption),

@@ -27,11 +27,11 @@ loop-holds c = (le-refl 64, refl, lit< tt, le-refl (2 ^ 64), λ h l rule. no-bit
 sub-s : tie.Need-sub-s Inv-loop μ-loop
 sub-s c = search needs
 
-shr-n : tie.Need-shr-n Inv-loop μ-loop
-shr-n c = search needs
+shr-entry : tie.Need-shr-entry Inv-loop μ-loop
+shr-entry c = search needs
 
 entry-requires : tie.Need-entry-requires Inv-loop μ-loop
-entry-requires c κs = mod-lt _ (lit< tt)
+entry-requires c κs = search needs
 
 shift-add-requires : tie.Need-shift-add-requires Inv-loop μ-loop
 shift-add-requires c κs = third-fits (c .before .before .loop .w .w2) (c .before .before .loop .s) (omega arith) (c .before .before .loop .inv .3)
@@ -71,7 +71,7 @@ product-spec =
     μ-loop
     loop-holds
     sub-s
-    shr-n
+    shr-entry
     entry-requires
     shift-add-requires
     loop-less

@@ -2,14 +2,15 @@
 -- Assumes nothing.
 use mathlib.Core.Path.{_≡_, refl, sym, ap, subst, _∙_}
 use mathlib.Core.List.{List}
-use Prim.Native.Nat.{ℕ, _+_, _-_, _*_, _≤_, _<_}
+use Prim.Native.Nat.{ℕ, _+_, _-_, _*_, _%_, _≤_, _<_}
+use native.Mathlib.Nat.{mod-eq-of-lt}
 use native.Mathlib.Omega.{arith}
 use borrow.Author.Needs.{needs}
 use lib.ListN.{length}
 use Rattle.rfc8452.specs.Field.{add, timesX, multiply}
 use Rattle.polyval.specs.Form.{num}
 use Rattle.polyval.proofs.Halves.{halves-lt}
-use Rattle.polyval.proofs.Windows.{Below, put, put-length, one-more, first-two, even, odd}
+use Rattle.polyval.proofs.Windows.{at, Below, put, put-length, one-more, first-two, even, odd}
 use Rattle.polyval.proofs.table.multiples.Statement.{statement}
 use Rattle.polyval.proofs.table.multiples.Tie as tie
 
@@ -76,8 +77,9 @@ loop-again c =
     let same : c .put-entry2 .last .0 ≡ t3 =
     c .put-entry2 .ensures ∙ ap (λ (l : List ℕ). put l (2 * i + 1) (d .result .lo) (d .result .hi)) (c .before .before .before .put-entry .ensures) in
     let size2 : length t2 ≡ 32 = put-length t (2 * i) (e .result .lo) (e .result .hi) ∙ size in
+    let low : i % 16 ≡ i = mod-eq-of-lt (omega arith) in
     let by-even : num (e .result) ≡ multiply (num h) (2 * i) =
-    e .ensures ∙ ap timesX (c .before .before .before .before .before .before .entry .ensures ∙ old i (omega arith)) ∙ sym (even (num h) i small (omega arith)) in
+    e .ensures ∙ ap timesX (c .before .before .before .before .before .before .entry .ensures ∙ ap (at t) low ∙ old i (omega arith)) ∙ sym (even (num h) i small (omega arith)) in
     let by-odd : num (d .result) ≡ multiply (num h) (2 * i + 1) =
     d .ensures ∙ ap (λ (n : ℕ). add n (num h)) by-even ∙ sym (odd (num h) i small) in
     let below : Below (num h) (2 * i + 1 + 1) t3 =

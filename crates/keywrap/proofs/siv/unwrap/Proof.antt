@@ -8,8 +8,8 @@ use Rattle.keywrap.specs.Form.{wholeKey}
 use Rattle.keywrap.proofs.Ends.{unwrap-opens, unwrap-refuses}
 use Rattle.keywrap.proofs.Sizes.{count, count-few, key-length, words-bytes}
 use borrow.Author.Needs.{needs}
-use Rattle.keywrap.proofs.unwrap.Statement.{statement}
-use Rattle.keywrap.proofs.unwrap.Tie as tie
+use Rattle.keywrap.proofs.siv.unwrap.Statement.{statement}
+use Rattle.keywrap.proofs.siv.unwrap.Tie as tie
 
 sbox-table-requires : tie.Need-sbox-table-requires
 sbox-table-requires c κs = search needs

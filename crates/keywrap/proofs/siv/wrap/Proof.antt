@@ -4,8 +4,8 @@ use Rattle.aes.specs.Form.{bytesOf, keyBytes, schedule}
 use Rattle.aes.specs.declared.KeySize.the-variants.{Aes256}
 use Rattle.keywrap.proofs.Ends.{wrap-ends}
 use borrow.Author.Needs.{needs}
-use Rattle.keywrap.proofs.wrap.Statement.{statement}
-use Rattle.keywrap.proofs.wrap.Tie as tie
+use Rattle.keywrap.proofs.siv.wrap.Statement.{statement}
+use Rattle.keywrap.proofs.siv.wrap.Tie as tie
 
 sbox-table-requires : tie.Need-sbox-table-requires
 sbox-table-requires c κs = search needs
