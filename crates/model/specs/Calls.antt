@@ -1,0 +1,97 @@
+-- The calls of demand 3 with all their arguments but the machine, and what a call gives.
+-- Assumes nothing.
+use mathlib.Core.List.{List, []}
+use mathlib.Core.Option.{Option, none, some}
+use Prim.Native.Nat.{ℕ}
+use Rattle.model.specs.Cpu.{cpl}
+use Rattle.model.specs.declared.Machine.{Machine}
+
+-- what power-on is given (the scope, "Records")
+pub record PowerOn : Type 0 where
+  pub count : ℕ
+  pub features : ℕ
+
+-- an instruction string on a processor; CPU record, memory, random data and string are bytes, of any length
+pub record StepCall : Type 0 where
+  pub processor : ℕ
+  pub cpu : List ℕ
+  pub memory : List ℕ
+  pub random : List ℕ
+  pub string : List ℕ
+
+-- the scope, "Backup, sleep, reset": "A register call takes a processor number, a CPL, an address and, to write, 64 bits"
+pub record ReadCall : Type 0 where
+  pub processor : ℕ
+  pub cpl : ℕ
+  pub address : ℕ
+
+pub record WriteCall : Type 0 where
+  pub processor : ℕ
+  pub cpl : ℕ
+  pub address : ℕ
+  pub value : ℕ
+
+-- the scope's settle: the persistent storage has taken the backup (0 good), or has failed (1 bad)
+pub record SettleCall : Type 0 where
+  pub code : ℕ
+
+-- the scope's sleep and wake: what the storage kept (0 old, 1 new, 2 junk)
+pub record SleepCall : Type 0 where
+  pub code : ℕ
+
+pub data Call : Type 0 where
+  step : StepCall → Call
+  read : ReadCall → Call
+  write : WriteCall → Call
+  settle : SettleCall → Call
+  sleep : SleepCall → Call
+  reset : Call
+
+-- ---- what a call has of each argument
+
+abbrev pub processorOf : Call → Option ℕ
+processorOf (step s) = some (s .processor)
+processorOf (read r) = some (r .processor)
+processorOf (write w) = some (w .processor)
+processorOf (settle s) = none
+processorOf (sleep s) = none
+processorOf reset = none
+
+abbrev pub stepOf : Call → Option StepCall
+stepOf (step s) = some s
+stepOf (read r) = none
+stepOf (write w) = none
+stepOf (settle s) = none
+stepOf (sleep s) = none
+stepOf reset = none
+
+-- the CPL of a step stands in its CPU record
+abbrev pub cplOf : Call → Option ℕ
+cplOf (step s) = some (cpl (s .cpu))
+cplOf (read r) = some (r .cpl)
+cplOf (write w) = some (w .cpl)
+cplOf (settle s) = none
+cplOf (sleep s) = none
+cplOf reset = none
+
+-- the CPU record as lent, empty where the call has none
+abbrev pub lentCpu : Call → List ℕ
+lentCpu (step s) = s .cpu
+lentCpu (read r) = []
+lentCpu (write w) = []
+lentCpu (settle s) = []
+lentCpu (sleep s) = []
+lentCpu reset = []
+
+-- ---- what a call gives
+
+-- 0 or the refusal's number; the CPU record and the lent buffer after the call, as lent where it is refused and empty where it has none; the value read
+pub record Answer : Type 0 where
+  pub number : ℕ
+  pub cpu : List ℕ
+  pub buffer : List ℕ
+  pub value : ℕ
+
+pub record Outcome : Type 0 where
+  pub machine : Machine
+  pub answer : Answer

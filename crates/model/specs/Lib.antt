@@ -1,0 +1,14 @@
+pub mod Numbers
+pub mod Records
+pub mod Cpu
+pub mod Calls
+pub mod Validity
+pub mod Forms
+pub mod Refusals
+pub mod Instructions
+pub mod Backup
+pub mod Execution
+pub mod History
+pub mod Demand3
+pub mod Layout
+pub mod Lent
