@@ -9,6 +9,7 @@ use lib.Dec.{eqb, leb, ltb, lit<}
 use lib.ListN.{length, getD}
 use borrow.Author.Tests.{ne-eqb, eqb-true, eqb-false, leb-true, leb-false, lt-leb, le-leb, le-ltb}
 use Rattle.bits.specs.Bytes.{Bytes}
+use Rattle.bits.proofs.Choice.{on-cond}
 use Rattle.bits.proofs.Lists.{bytes-at}
 use Rattle.isa.specs.Decode.{byteAt, extended, displacement32, displacementAt, placed, indexOf, sibOf, sibFrom, modrmOf, opcode, allowed, instructionOf, built, modrmFrom, opcodeFrom, mapFrom, escapeFrom, rexOf, rexFrom, repFrom, lockFrom, decodeAt}
 use Rattle.isa.specs.Fitting.{BaseFits, IndexFits, InMemory, InRegister, Fits}
@@ -30,11 +31,6 @@ use Rattle.isa.specs.declared.Step.the-variants as step
 extended-lt : (bit : Bool) (n : ℕ) → extended bit n < 16
 extended-lt true n = omega arith
 extended-lt false n = omega arith
-
--- a property of both ways of a choice
-on-cond : {A : Type 0} (P : A → Type 0) (b : Bool) (x y : A) → (b ≡ true → P x) → (b ≡ false → P y) → P (cond b x y)
-on-cond P true x y f g = f refl
-on-cond P false x y f g = g refl
 
 -- ---- operands
 

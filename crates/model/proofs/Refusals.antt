@@ -1,13 +1,21 @@
 -- The numbered tests: a call that none refuses fails them all; no refusal of the list is 1.
 -- Assumes nothing.
-use mathlib.Core.Path.{_≡_, refl, subst}
-use mathlib.Core.Bool.{Bool, true, false, cond, not, _&&_}
+use mathlib.Core.Path.{_≡_, _∙_, refl, sym, ap, subst}
+use mathlib.Core.Bool.{Bool, true, false, cond, not, _&&_, or-false}
 use mathlib.Core.List.{List, [], _∷_}
-use Prim.Native.Nat.{ℕ}
-use lib.Dec.{T, eqb}
+use mathlib.Core.Option.{Option, some}
+use Prim.Native.Nat.{ℕ, _<_, _≤_}
+use lib.Dec.{T, eqb, leb}
+use lib.ListN.{length}
+use borrow.Author.Tests.{leb-false, ltb-false, eqb-true, not-false}
 use Rattle.bits.proofs.Choice.{and-left, and-right}
-use Rattle.model.specs.Calls.{Call}
-use Rattle.model.specs.Refusals.{View, Test, first, tests, refusal}
+use Rattle.isa.specs.Decode.{decode}
+use Rattle.isa.specs.declared.Decoded.the-variants as decoded
+use Rattle.isa.specs.declared.Instruction.{Instruction}
+use Rattle.model.specs.Cpu.{cpuSize}
+use Rattle.model.specs.Forms.{Form, formOf}
+use Rattle.model.specs.Calls.{StepCall, Call, step, processorOf}
+use Rattle.model.specs.Refusals.{View, Test, first, of, ofDecoded, ofInstruction, unknownCode, memoryLimit, randomLength, instructionFault, outside, tests, refusal}
 
 -- none of the tests holds
 abbrev pub Clear : List Test → Type 0
@@ -46,3 +54,45 @@ passes v c e = first-clear (tests v c) tt e
 pub never-1 : (v : View) (c : Call) → T (not (eqb (refusal v c) 1))
 unfolding refusal tests
 never-1 v c = first-is (λ n. not (eqb n 1)) (tests v c) tt tt
+
+-- ---- what a call that is not refused tells
+
+pub processor-below : (v : View) (c : Call) (p : ℕ) → refusal v c ≡ 0 → processorOf c ≡ some p → p < v .count
+unfolding tests
+processor-below v c p e q =
+    leb-false (v .count) p (sym (ap (of (leb (v .count))) q) ∙ passes v c e .1 .0)
+
+pub code-known : (v : View) (c : Call) → refusal v c ≡ 0 → unknownCode c ≡ false
+unfolding tests
+code-known v c e = passes v c e .0
+
+module _ (v : View) (s : StepCall) (accepted : refusal v (step s) ≡ 0) where
+  pub cpu-length : length (s .cpu) ≡ cpuSize
+  unfolding tests
+  cpu-length = eqb-true (length (s .cpu)) cpuSize (not-false (eqb (length (s .cpu)) cpuSize) (passes v (step s) accepted .1 .1 .0))
+
+  pub memory-length : length (s .memory) ≤ memoryLimit
+  unfolding tests
+  memory-length = ltb-false memoryLimit (length (s .memory)) (passes v (step s) accepted .1 .1 .1 .1 .0)
+
+  pub random-length : randomLength (length (s .random)) ≡ true
+  unfolding tests
+  random-length = not-false (randomLength (length (s .random))) (passes v (step s) accepted .1 .1 .1 .1 .1 .0)
+
+  -- refusal 12
+  pub no-fault : (what : Instruction) (lock : Bool) (bytes : ℕ) → decode (s .string) ≡ decoded.Found what lock bytes
+      → instructionFault (v .features) (s .cpu) what bytes ≡ false
+  unfolding tests
+  no-fault what lock bytes q =
+      sym (ap (ofDecoded (λ i lock bytes. instructionFault (v .features) (s .cpu) i bytes)) q)
+      ∙ sym (or-false (ofInstruction (λ s i lock bytes. instructionFault (v .features) (s .cpu) i bytes) (step s)))
+      ∙ passes v (step s) accepted .1 .1 .1 .1 .1 .1 .1 .1 .1 .1 .0
+
+  -- refusal 14
+  pub handle-inside : (what : Instruction) (lock : Bool) (bytes : ℕ) (f : Form) → decode (s .string) ≡ decoded.Found what lock bytes → formOf what ≡ some f
+      → outside (length (s .memory)) (s .cpu) bytes f ≡ false
+  unfolding tests
+  handle-inside what lock bytes f q r =
+      sym (ap (of (outside (length (s .memory)) (s .cpu) bytes)) r)
+      ∙ sym (ap (ofDecoded (λ i lock bytes. of (outside (length (s .memory)) (s .cpu) bytes) (formOf i))) q)
+      ∙ passes v (step s) accepted .1 .1 .1 .1 .1 .1 .1 .1 .1 .1 .1 .1 .0

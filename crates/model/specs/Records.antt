@@ -48,10 +48,13 @@ absent = record { present = 0; key = zeroKey }
 abbrev pub holding : IwKey → Slot
 holding k = record { present = 1; key = k }
 
--- Processor p of the machine. Past the last it is a record whose arrays are empty, as the logic of the code has it; no call that is not refused gets there.
+-- what stands past the last processor: its arrays are empty, as the logic of the code has it; no call that is not refused gets there
+abbrev pub noProcessor : Processor
+noProcessor = record { key = record { integrity = []; encryption = []; source = 0; «no_backup» = 0 }; «copy_status» = 0 }
+
+-- processor p of the machine
 abbrev pub processorAt : Machine → ℕ → Processor
-processorAt m p =
-    getD (m .processors) p (record { key = record { integrity = []; encryption = []; source = 0; «no_backup» = 0 }; «copy_status» = 0 })
+processorAt m p = getD (m .processors) p noProcessor
 
 -- ---- setters
 

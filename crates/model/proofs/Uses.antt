@@ -1,0 +1,240 @@
+-- A use of a handle that an encode gave, both under one IWKey: it works exactly when size, privilege and direction allow it.
+-- Assumes nothing.
+use mathlib.Core.Path.{_≡_, _∙_, refl, sym, ap, ap₂}
+use mathlib.Core.Bool.{Bool, true, false, cond, not, _&&_, _||_, Bool·not-not, false≢true}
+use mathlib.Core.List.{List, [], _∷_}
+use mathlib.Core.Option.{Option, none, some}
+use Prim.Native.Nat.{ℕ, zero, suc, _+_, _*_, _^_, _/_, _%_, _≤_, _<_}
+use native.Mathlib.Nat.{zero-lt-suc}
+use native.Mathlib.Omega.{arith}
+use lib.Dec.{T, eqb, ltb, eqb·suc-zero}
+use lib.ListN.{length, take, replicate}
+use lib.Seq.{sets, length-sets, take-length, take-take}
+use borrow.Author.Tests.{lt-ltb, eqb-true}
+use Rattle.fips197.specs.Aes.{decrypt}
+use Rattle.fips197.proofs.Undo.{encrypt-length, inv-cipher-length}
+use Rattle.fips197.specs.KeyExpansion.{keyExpansion}
+use Rattle.handle.specs.Format.{aad, aadOf, keyType, restrictions, reservedBitSet}
+use Rattle.handle.specs.Wrap.{wrapKey, unwrapKey}
+use Rattle.handle.proofs.Aad.{aad-length, aad-key-type, aad-restrictions, aad-reserved}
+use Rattle.handle.proofs.Wrap.{wrap-length, wrap-aad, unwrap-wrap}
+use Rattle.aes.specs.Form.{nk}
+use Rattle.aes.specs.declared.Direction.{Direction}
+use Rattle.aes.specs.declared.Direction.the-variants.{Encrypt, Decrypt}
+use Rattle.aes.specs.declared.KeySize.{KeySize}
+use Rattle.aes.specs.declared.KeySize.the-variants.{Aes128, Aes256}
+use Rattle.isa.specs.Ranges.{handleLength}
+use Rattle.isa.specs.declared.EncodeKey.{EncodeKey}
+use Rattle.isa.proofs.Ranges.{length-few}
+use Rattle.bits.proofs.Choice.{cond-on, cond-off}
+use Rattle.bits.specs.Words.{leBytes}
+use Rattle.isa.specs.Address.{nextRip}
+use Rattle.model.specs.Numbers.{bit, part}
+use Rattle.model.specs.Cpu.{xmmAt, registerAt, ripAt, rflagsAt, cpuSize, xmm, register, rip, rflags, cpl, zf, flags, withRip, withZf, mapXmm}
+use Rattle.model.specs.Forms.{Form, registerOf, handleRead}
+use Rattle.model.specs.Instructions.{typeOf, keyFrom, encodedHandle, encoded, forbids, illegal, openedFor, aes, ciphered, used, advanced}
+use Rattle.model.specs.Demand3.{Agree, directionAllows, member}
+use Rattle.model.specs.declared.IwKey.{IwKey}
+use Rattle.model.proofs.Parts.{part-before, part-filled, part-length}
+use Rattle.model.proofs.Cpu.{zf-written, zf-rip, xmm-zf, xmm-rip, registers, mapped-length, xmm-mapped}
+
+-- ---- the handle in an encode's answer
+
+-- a key of 16 or 32 bytes, in blocks
+keyBlocks : KeySize → ℕ
+keyBlocks Aes128 = 1
+keyBlocks Aes256 = 2
+
+key-blocks : (size : KeySize) → 4 * nk size ≡ 16 * keyBlocks size
+unfolding keyBlocks
+key-blocks Aes128 = refl
+key-blocks Aes256 = refl
+
+key-few : (size : KeySize) → 4 * nk size ≤ 32
+key-few Aes128 = omega arith
+key-few Aes256 = omega arith
+
+-- ---- what the AAD forbids
+
+-- bits 2:0 of the source are in the AAD
+low-bit : (x : ℕ) → bit 0 (x % 8) ≡ bit 0 x
+low-bit x = let p : x % 8 / 2 ^ 0 % 2 ≡ x / 2 ^ 0 % 2 = omega arith in ap (λ (n : ℕ). eqb n 1) p
+
+direction-bit : (d : Direction) (x : ℕ) → forbids d (x % 8) ≡ not (directionAllows d x)
+direction-bit Encrypt x =
+    let p : x % 8 / 2 ^ 1 % 2 ≡ x / 2 ^ 1 % 2 = omega arith in ap (λ (n : ℕ). eqb n 1) p ∙ sym (Bool·not-not (bit 1 x))
+direction-bit Decrypt x =
+    let p : x % 8 / 2 ^ 2 % 2 ≡ x / 2 ^ 2 % 2 = omega arith in ap (λ (n : ℕ). eqb n 1) p ∙ sym (Bool·not-not (bit 2 x))
+
+type-told : (s t : KeySize) → eqb (typeOf s % 16) (typeOf t) ≡ eqb (nk s) (nk t)
+type-told Aes128 Aes128 = refl
+type-told Aes128 Aes256 = refl
+type-told Aes256 Aes128 = refl
+type-told Aes256 Aes256 = refl
+
+above-zero : (n : ℕ) → ltb 0 n ≡ not (eqb n 0)
+above-zero zero = refl
+above-zero (suc n) = lt-ltb 0 (suc n) (zero-lt-suc n) ∙ ap not (sym (eqb·suc-zero n))
+
+-- size, privilege and direction
+abbrev pub permits : KeySize → ℕ → KeySize → Direction → ℕ → Bool
+permits size source used direction cpl = eqb (nk size) (nk used) && (not (bit 0 source) || eqb cpl 0) && directionAllows direction source
+
+sizes-told : (size : KeySize) (x : ℕ) (used : KeySize) (direction : Direction) (c : ℕ)
+    → permits size x used direction c ≡ true → eqb (nk size) (nk used) ≡ true
+sizes-told size x used direction c q = first (eqb (nk size) (nk used)) (not (bit 0 x) || eqb c 0) (directionAllows direction x) q
+  where
+    first : (a b c : Bool) → (a && b && c) ≡ true → a ≡ true
+    first true b c q = refl
+    first false b c q = q
+
+illegal-told : (size used : KeySize) (direction : Direction) (x c : ℕ)
+    → illegal c used direction (aad (typeOf size) x) ≡ not (permits size x used direction c)
+illegal-told size used direction x c =
+    ap₂ (λ (r : Bool) (t : ℕ). r || not (eqb t (typeOf used)) || bit 0 (restrictions a) && ltb 0 c || forbids direction (restrictions a))
+    (aad-reserved (typeOf size) x) (aad-key-type (typeOf size) x)
+    ∙ ap (λ (r : ℕ). not (eqb (typeOf size % 16) (typeOf used)) || bit 0 r && ltb 0 c || forbids direction r) (aad-restrictions (typeOf size) x)
+    ∙ ap₂ (λ (t b : Bool). not t || b && ltb 0 c || forbids direction (x % 8)) (type-told size used) (low-bit x)
+    ∙ ap₂ (λ (z d : Bool). not (eqb (nk size) (nk used)) || bit 0 x && z || d) (above-zero c) (direction-bit direction x)
+    ∙ morgan (eqb (nk size) (nk used)) (bit 0 x) (eqb c 0) (directionAllows direction x)
+  where
+    a : List ℕ
+    a = aad (typeOf size) x
+    morgan : (a b z d : Bool) → (not a || b && not z || not d) ≡ not (a && (not b || z) && d)
+    morgan false b z d = refl
+    morgan true false z d = refl
+    morgan true true true d = refl
+    morgan true true false d = refl
+
+module _ (e : EncodeKey) (k : IwKey) (cpu : List ℕ) (l : length cpu ≡ cpuSize) where
+  abbrev source : ℕ
+  source = register (registerOf (e .source)) cpu
+
+  key-length : length (keyFrom (e .size) cpu) ≡ 16 * keyBlocks (e .size)
+  key-length =
+      let few : 4 * nk (e .size) ≤ 32 = key-few (e .size) in
+      part-length cpu (4 * nk (e .size)) 0 (omega arith) ∙ key-blocks (e .size)
+
+  handle-length : length (encodedHandle e k cpu) ≡ handleLength (e .size)
+  handle-length =
+      wrap-length (k .integrity) (k .encryption) (aad (typeOf (e .size)) source) (keyFrom (e .size) cpu) (keyBlocks (e .size))
+      (aad-length (typeOf (e .size)) source) key-length
+      ∙ ap (λ (n : ℕ). 32 + n) (sym (key-blocks (e .size)))
+
+  pub handle-given : (bytes : ℕ) → take (handleLength (e .size)) (advanced bytes (encoded e k cpu)) ≡ encodedHandle e k cpu
+  unfolding encoded
+  handle-given bytes =
+      let n = handleLength (e .size) in
+      let few : n ≤ 64 = length-few (e .size) in
+      let handle = sets cpu (xmmAt 0) (encodedHandle e k cpu) in
+      let zeros : List ℕ = replicate (3 * 16) 0 in
+      let told = leBytes 8 (k .«no_backup» + 2 * k .source) in
+      let wiped = sets handle (xmmAt 4) zeros in
+      let loaded = sets wiped (registerAt (e .destination)) told in
+      let flagged = leBytes 8 (flags 0 (rflags loaded)) in
+      let last = sets loaded rflagsAt flagged in
+      part-before (leBytes 8 (nextRip (rip last) bytes)) last n 0 ripAt (omega arith)
+      ∙ part-before flagged loaded n 0 rflagsAt (omega arith)
+      ∙ part-before told wiped n 0 (registerAt (e .destination)) (omega arith)
+      ∙ part-before zeros handle n 0 (xmmAt 4) (omega arith)
+      ∙ part-filled (encodedHandle e k cpu) cpu n 0 handle-length (omega arith)
+
+  -- ---- opening it
+
+  -- the bytes that a use of some size reads
+  module _ (used : KeySize) (h : List ℕ) (n : length h ≡ handleLength used) (same : Agree h (encodedHandle e k cpu)) where
+    abbrev given : List ℕ
+    given = encodedHandle e k cpu
+
+    aad-read : aadOf h ≡ aad (typeOf (e .size)) source
+    aad-read =
+        let p : 16 ≤ length given = omega (arith, handle-length) in
+        let q : 16 ≤ length h = omega arith in
+        sym (take-take 16 (length given) h p) ∙ ap (take 16) same ∙ take-take 16 (length h) given q
+        ∙ wrap-aad (k .integrity) (k .encryption) (aad (typeOf (e .size)) source) (keyFrom (e .size) cpu) (aad-length (typeOf (e .size)) source)
+
+    whole : nk (e .size) ≡ nk used → h ≡ given
+    whole p =
+        let q : length h ≡ length given = n ∙ ap (λ (w : ℕ). 32 + 4 * w) (sym p) ∙ sym handle-length in
+        sym (take-length h) ∙ ap (λ (w : ℕ). take w h) q ∙ same ∙ ap (λ (w : ℕ). take w given) q ∙ take-length given
+
+    pub opened : (direction : Direction) (c : ℕ)
+        → openedFor k c used direction h ≡ cond (permits (e .size) source used direction c) (some (keyFrom (e .size) cpu)) none
+    unfolding openedFor
+    opened direction c =
+        ap (λ (b : Bool). cond b none (unwrapKey (k .integrity) (k .encryption) h))
+        (ap (illegal c used direction) aad-read ∙ illegal-told (e .size) used direction source c)
+        ∙ go (permits (e .size) source used direction c) refl
+      where
+        go : (t : Bool) → permits (e .size) source used direction c ≡ t
+            → _≡_ {A = Option (List ℕ)} (cond (not t) none (unwrapKey (k .integrity) (k .encryption) h)) (cond t (some (keyFrom (e .size) cpu)) none)
+        go true q =
+            ap (unwrapKey (k .integrity) (k .encryption)) (whole (eqb-true (nk (e .size)) (nk used) (sizes-told (e .size) source used direction c q)))
+            ∙ unwrap-wrap (k .integrity) (k .encryption) (aad (typeOf (e .size)) source) (keyFrom (e .size) cpu) (keyBlocks (e .size))
+            (aad-length (typeOf (e .size)) source) key-length
+        go false q = refl
+
+-- ---- the CPU record after a use
+
+aes-length : (d : Direction) (size : KeySize) (key b : List ℕ) → length (aes d size key b) ≡ 16
+unfolding decrypt
+aes-length Encrypt size key b = encrypt-length (nk size) key b
+aes-length Decrypt size key b = inv-cipher-length (keyExpansion (nk size) key) (nk size + 6) b
+
+module _ (f : Form) (fits : T (registers (f .blocks))) (key cpu : List ℕ) (l : length cpu ≡ cpuSize) (bytes : ℕ) where
+  abbrev after : Bool → List ℕ
+  after t = advanced bytes (ciphered f (cond t (some key) none) cpu)
+
+  pub zf-after : (t : Bool) → zf (after t) ≡ cond t 0 1
+  zf-after true =
+      let done = mapXmm (aes (f .direction) (f .size) key) (f .blocks) cpu in
+      zf-rip (nextRip (rip (withZf 0 done)) bytes) (withZf 0 done) ∙ zf-written 0 done (omega arith) (mapped-length (aes (f .direction) (f .size) key) (f .blocks) cpu ∙ l)
+  zf-after false = zf-rip (nextRip (rip (withZf 1 cpu)) bytes) (withZf 1 cpu) ∙ zf-written 1 cpu (omega arith) l
+
+  pub xmm-after : (t : Bool) (i : ℕ) → i < 16
+      → xmm i (after t) ≡ cond (t && member i (f .blocks)) (aes (f .direction) (f .size) key (xmm i cpu)) (xmm i cpu)
+  xmm-after true i h =
+      let done = mapXmm (aes (f .direction) (f .size) key) (f .blocks) cpu in
+      xmm-rip i (nextRip (rip (withZf 0 done)) bytes) (withZf 0 done) ∙ xmm-zf i 0 done
+      ∙ xmm-mapped (aes (f .direction) (f .size) key) (aes-length (f .direction) (f .size) key) (f .blocks) fits cpu l i h
+  xmm-after false i h = xmm-rip i (nextRip (rip (withZf 1 cpu)) bytes) (withZf 1 cpu) ∙ xmm-zf i 1 cpu
+
+-- ---- both together
+
+-- AES depends on the size of the key alone
+aes-same : (d : Direction) (s t : KeySize) (key b : List ℕ) → eqb (nk s) (nk t) ≡ true → aes d t key b ≡ aes d s key b
+aes-same d Aes128 Aes128 key b q = refl
+aes-same d Aes128 Aes256 key b q = absurd (false≢true q)
+aes-same d Aes256 Aes128 key b q = absurd (false≢true q)
+aes-same d Aes256 Aes256 key b q = refl
+
+module _ (e : EncodeKey) (k : IwKey) (before : List ℕ) (l : length before ≡ cpuSize)
+    (memory : List ℕ) (bytes : ℕ) (f : Form) (fits : T (registers (f .blocks))) (cpu : List ℕ) (m : length cpu ≡ cpuSize)
+    (n : length (handleRead memory cpu bytes f) ≡ handleLength (f .size))
+    (same : Agree (handleRead memory cpu bytes f) (encodedHandle e k before)) where
+  abbrev allowed : Bool
+  allowed = permits (e .size) (register (registerOf (e .source)) before) (f .size) (f .direction) (cpl cpu)
+
+  ciphered-as : advanced bytes (used memory bytes f k cpu) ≡ advanced bytes (ciphered f (cond allowed (some (keyFrom (e .size) before)) none) cpu)
+  unfolding used
+  ciphered-as =
+      ap (λ (o : Option (List ℕ)). advanced bytes (ciphered f o cpu))
+      (opened e k before l (f .size) (handleRead memory cpu bytes f) n same (f .direction) (cpl cpu))
+
+  pub use-zf : zf (advanced bytes (used memory bytes f k cpu)) ≡ cond allowed 0 1
+  use-zf = ap zf ciphered-as ∙ zf-after f fits (keyFrom (e .size) before) cpu m bytes allowed
+
+  pub use-xmm : (i : ℕ) → i < 16
+      → xmm i (advanced bytes (used memory bytes f k cpu))
+      ≡ cond (allowed && member i (f .blocks)) (aes (f .direction) (e .size) (keyFrom (e .size) before) (xmm i cpu)) (xmm i cpu)
+  use-xmm i h =
+      ap (xmm i) ciphered-as ∙ xmm-after f fits (keyFrom (e .size) before) cpu m bytes allowed i h ∙ go allowed refl
+    where
+      go : (t : Bool) → allowed ≡ t
+          → cond (t && member i (f .blocks)) (aes (f .direction) (f .size) (keyFrom (e .size) before) (xmm i cpu)) (xmm i cpu)
+          ≡ cond (t && member i (f .blocks)) (aes (f .direction) (e .size) (keyFrom (e .size) before) (xmm i cpu)) (xmm i cpu)
+      go true q =
+          ap (λ (b : List ℕ). cond (member i (f .blocks)) b (xmm i cpu))
+          (aes-same (f .direction) (e .size) (f .size) (keyFrom (e .size) before) (xmm i cpu)
+          (sizes-told (e .size) (register (registerOf (e .source)) before) (f .size) (f .direction) (cpl cpu) q))
+      go false q = refl
