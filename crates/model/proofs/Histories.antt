@@ -214,6 +214,28 @@ slot-some s k q = go (eqb (s .present) 1) q
     go true q = (refl, Option·some-injective (s .key) k q)
     go false q = absurd (Option·none-ne-some k q)
 
+-- each processor's IWKey is its name's key
+module _ (p : PowerOn) (calls : List Call) (m : Machine) (h : History) (inv : Holds p calls m h) where
+  same-count : m .count ≡ p .count
+  same-count = ap (λ (v : View). v .count) (inv .view)
+
+  processors-named : map (λ (e : Processor). e .key) (take (m .count) (m .processors)) ≡ map (keyOf calls) (h .names)
+  processors-named = ap (λ (x : Holding). x .processors) (inv .keys)
+
+  pub key-at : (q : ℕ) → q < p .count → processorAt m q .key ≡ keyOf calls (nameAt q h)
+  key-at q b =
+      let key : Processor → IwKey = λ e. e .key in
+      let names = map (keyOf calls) (h .names) in
+      let there : q < length names = subst (λ (n : ℕ). q < n) (sym (inv .names) ∙ sym (length-map (h .names) (keyOf calls))) b in
+      ap key (sym (getD-take (m .count) (m .processors) q noProcessor (subst (λ (n : ℕ). q < n) (sym same-count) b)))
+      ∙ sym (List·getD-map key (take (m .count) (m .processors)) q noProcessor)
+      ∙ ap (λ (l : List IwKey). getD l q (noProcessor .key)) processors-named
+      ∙ getD-there names q (noProcessor .key) (keyOf calls 0) there
+      ∙ List·getD-map (keyOf calls) (h .names) q 0
+
+  pub name-given : (q : ℕ) → T (given p calls (nameAt q h))
+  name-given q = all-at (given p calls) (h .names) q 0 (every-parts (given p calls) h (inv .givens) .names) tt
+
 module _ (p : PowerOn) (past : List Call) (c : Call) (m : Machine) (h : History) (inv : Holds p (past ++ (c ∷ [])) m h) where
   abbrev calls : List Call
   calls = past ++ (c ∷ [])
@@ -221,34 +243,18 @@ module _ (p : PowerOn) (past : List Call) (c : Call) (m : Machine) (h : History)
   abbrev key : Processor → IwKey
   key e = e .key
 
-  same-count : m .count ≡ p .count
-  same-count = ap (λ (v : View). v .count) (inv .view)
-
-  processors-named : map key (take (m .count) (m .processors)) ≡ map (keyOf calls) (h .names)
-  processors-named = ap (λ (x : Holding). x .processors) (inv .keys)
-
-  key-at : (q : ℕ) → q < m .count → processorAt m q .key ≡ keyOf calls (nameAt q h)
-  key-at q b =
-      let names = map (keyOf calls) (h .names) in
-      let there : q < length names = subst (λ (n : ℕ). q < n) (same-count ∙ sym (inv .names) ∙ sym (length-map (h .names) (keyOf calls))) b in
-      ap key (sym (getD-take (m .count) (m .processors) q noProcessor b))
-      ∙ sym (List·getD-map key (take (m .count) (m .processors)) q noProcessor)
-      ∙ ap (λ (l : List IwKey). getD l q (noProcessor .key)) processors-named
-      ∙ getD-there names q (noProcessor .key) (keyOf calls 0) there
-      ∙ List·getD-map (keyOf calls) (h .names) q 0
-
   -- a processor whose IWKey is that of a name
-  processors-set : (q : ℕ) (x : Processor) (n : ℕ) → q < m .count → x .key ≡ keyOf calls n
+  processors-set : (q : ℕ) (x : Processor) (n : ℕ) → q < p .count → x .key ≡ keyOf calls n
       → map key (take (m .count) (set (m .processors) q x)) ≡ map (keyOf calls) (set (h .names) q n)
   processors-set q x n b e =
-      map-take-set key (m .count) (m .processors) q x b
-      ∙ ap₂ (λ (l : List IwKey) (k : IwKey). set l q k) processors-named e
+      map-take-set key (m .count) (m .processors) q x (subst (λ (n : ℕ). q < n) (sym (same-count p calls m h inv)) b)
+      ∙ ap₂ (λ (l : List IwKey) (k : IwKey). set l q k) (processors-named p calls m h inv) e
       ∙ sym (map-set (keyOf calls) (h .names) q n)
 
-  processors-kept : (q : ℕ) (x : Processor) → q < m .count → x .key ≡ processorAt m q .key
+  processors-kept : (q : ℕ) (x : Processor) → q < p .count → x .key ≡ processorAt m q .key
       → map key (take (m .count) (set (m .processors) q x)) ≡ map (keyOf calls) (h .names)
   processors-kept q x b e =
-      processors-set q x (nameAt q h) b (e ∙ key-at q b) ∙ ap (map (keyOf calls)) (set-getD (h .names) q 0)
+      processors-set q x (nameAt q h) b (e ∙ key-at p calls m h inv q b) ∙ ap (map (keyOf calls)) (set-getD (h .names) q 0)
 
   every : Every (given p calls) h
   every = every-parts (given p calls) h (inv .givens)
@@ -278,7 +284,7 @@ module _ (p : PowerOn) (past : List Call) (c : Call) (m : Machine) (h : History)
 
   -- ---- of one processor
 
-  module _ (q : ℕ) (b : q < m .count) where
+  module _ (q : ℕ) (b : q < p .count) where
     abbrev entry : Processor
     entry = processorAt m q
 
@@ -316,7 +322,7 @@ module _ (p : PowerOn) (past : List Call) (c : Call) (m : Machine) (h : History)
 
       no-backup-told : entry .key .«no_backup» ≡ noBackupOf past (nameAt q h)
       no-backup-told =
-          ap (λ (k : IwKey). k .«no_backup») (key-at q b ∙ key-more p past (c ∷ []) (nameAt q h) given-past)
+          ap (λ (k : IwKey). k .«no_backup») (key-at p calls m h inv q b ∙ key-more p past (c ∷ []) (nameAt q h) given-past)
           ∙ key-no-backup p past (nameAt q h) given-past
 
       pending-told : m .platform .pending ≡ h .pending
@@ -363,8 +369,8 @@ module _ (p : PowerOn) (past : List Call) (c : Call) (m : Machine) (h : History)
               let x = withCopyStatus 1 entry in
               moved-to (set (m .processors) q x) (length-set (m .processors) q x ∙ inv .entries) (h .names) (inv .names)
               (processors-kept q x b refl) (every .names)
-              out (some (nameAt q h)) (h .store) 1 (ap {B = Option IwKey} some (key-at q b)) (λ j. inv .keys j .store) refl
-              (all-at (given p calls) (h .names) q 0 (every .names) tt) (every .store)
+              out (some (nameAt q h)) (h .store) 1 (ap {B = Option IwKey} some (key-at p calls m h inv q b)) (λ j. inv .keys j .store) refl
+              (name-given p calls m h inv q) (every .store)
           go false = kept-moved (withCopyStatus 0 entry) refl
 
     -- a copy in
@@ -417,7 +423,7 @@ module _ (p : PowerOn) (past : List Call) (c : Call) (m : Machine) (h : History)
       → _≡_ {A = Option IwKey} (slotKey (f .store)) (Option·map (keyOf calls) s) → f .pending ≡ w
       → T (orNone (given p calls) b) → T (orNone (given p calls) s)
       → Moved p calls (withPlatform f m) (record { names = h .names; backup = b; store = s; pending = w })
-  processors-stay = moved-to (m .processors) (inv .entries) (h .names) (inv .names) processors-named (every .names)
+  processors-stay = moved-to (m .processors) (inv .entries) (h .names) (inv .names) (processors-named p calls m h inv) (every .names)
 
   backup-named : _≡_ {A = Option IwKey} (slotKey (m .platform .backup)) (Option·map (keyOf calls) (h .backup))
   backup-named = λ j. inv .keys j .backup
@@ -466,7 +472,7 @@ module _ (p : PowerOn) (past : List Call) (c : Call) (m : Machine) (h : History)
       moved-to (replicate processorLimit zeroProcessor) refl (replicate (p .count) 0) (length-replicate (p .count) 0)
       (ap (map key) (take-replicate (m .count) processorLimit zeroProcessor few)
       ∙ map-replicate key (m .count) zeroProcessor
-      ∙ ap (λ (n : ℕ). replicate n zeroKey) same-count
+      ∙ ap (λ (n : ℕ). replicate n zeroKey) (same-count p calls m h inv)
       ∙ sym (map-replicate (keyOf calls) (p .count) 0))
       (all-replicate (given p calls) (p .count) 0 tt)
 
@@ -519,16 +525,14 @@ performed-moved : (p : PowerOn) (past : List Call) (c : Call) (m : Machine) (h :
 unfolding perform moved
 performed-moved p past (step s) m h inv a =
     let more = more-past p past (step s) m h inv in
-    let below : s .processor < m .count =
-      subst (λ (v : View). s .processor < v .count) (sym (inv .view)) (processor-below (viewGiven p) (step s) (s .processor) a refl) in
+    let below = processor-below (viewGiven p) (step s) (s .processor) a refl in
     step-moved p past (step s) m h more (s .processor) below s refl refl a
 performed-moved p past (read r) m h inv a =
     let more = more-past p past (read r) m h inv in
     record { entries = more .entries; names = more .names; keys = more .keys; givens = more .givens }
 performed-moved p past (write w) m h inv a =
     let more = more-past p past (write w) m h inv in
-    let below : w .processor < m .count =
-      subst (λ (v : View). w .processor < v .count) (sym (inv .view)) (processor-below (viewGiven p) (write w) (w .processor) a refl) in
+    let below = processor-below (viewGiven p) (write w) (w .processor) a refl in
     write-moved p past (write w) m h more (w .processor) below (inv .givens) w refl
 performed-moved p past (settle s) m h inv a = settle-moved p past (settle s) m h (more-past p past (settle s) m h inv) (s .code)
 performed-moved p past (sleep s) m h inv a = sleep-moved p past (sleep s) m h (more-past p past (sleep s) m h inv) (s .code)

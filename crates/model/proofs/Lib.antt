@@ -6,3 +6,4 @@ pub mod Uses
 pub mod Frames
 pub mod Validities
 pub mod Histories
+pub mod Demand3

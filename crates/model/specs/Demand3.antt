@@ -7,6 +7,7 @@ use mathlib.Core.Option.{Option, none, some, Option·map}
 use Prim.Native.Nat.{ℕ, zero, suc, _*_, _<_}
 use lib.Dec.{eqb, ltb}
 use lib.ListN.{length, getD, take}
+use Rattle.bits.specs.Bytes.{Bytes}
 use Rattle.aes.specs.Form.{nk}
 use Rattle.aes.specs.declared.Direction.{Direction}
 use Rattle.aes.specs.declared.Direction.the-variants.{Encrypt, Decrypt}
@@ -15,6 +16,7 @@ use Rattle.isa.specs.Decode.{decode}
 use Rattle.isa.specs.Ranges.{handleLength}
 use Rattle.isa.specs.declared.Decoded.{Decoded}
 use Rattle.isa.specs.declared.Decoded.the-variants as decoded
+use Rattle.isa.specs.declared.EncodeKey.{EncodeKey}
 use Rattle.isa.specs.declared.Instruction.{Instruction}
 use Rattle.isa.specs.declared.Instruction.the-variants as instruction
 use Rattle.model.specs.Numbers.{bit}
@@ -90,7 +92,7 @@ everyName f h = allOf f (h .names) && (orNone f (h .backup) && orNone f (h .stor
 
 -- ---- encodes and uses
 
--- an encode: its processor, key size, bits 2:0 of its source, and the key
+-- an encode: its processor, key size, source register, and the key
 pub record Encode : Type 0 where
   pub processor : ℕ
   pub size : KeySize
@@ -98,17 +100,20 @@ pub record Encode : Type 0 where
   pub key : List ℕ
 
 -- "The encoded key is XMM0 (then XMM1) before the encode": the first 16 or 32 bytes of the CPU record
-abbrev pub encodeIn : StepCall → Decoded → Option Encode
-encodeIn s (decoded.Found (instruction.Use u) lock bytes) = none
-encodeIn s (decoded.Found (instruction.WideUse u) lock bytes) = none
-encodeIn s (decoded.Found (instruction.LoadIwKey l) lock bytes) = none
-encodeIn s (decoded.Found (instruction.EncodeKey e) lock bytes) =
-    some (record {
+abbrev pub encodeMade : StepCall → EncodeKey → Encode
+encodeMade s e =
+    record {
       processor = s .processor;
       size = e .size;
       source = register (registerOf (e .source)) (s .cpu);
       key = take (4 * nk (e .size)) (s .cpu);
-    })
+    }
+
+abbrev pub encodeIn : StepCall → Decoded → Option Encode
+encodeIn s (decoded.Found (instruction.Use u) lock bytes) = none
+encodeIn s (decoded.Found (instruction.WideUse u) lock bytes) = none
+encodeIn s (decoded.Found (instruction.LoadIwKey l) lock bytes) = none
+encodeIn s (decoded.Found (instruction.EncodeKey e) lock bytes) = some (encodeMade s e)
 encodeIn s decoded.BadByte = none
 encodeIn s decoded.EndOfString = none
 
@@ -176,6 +181,11 @@ abbrev pub answerAt : Run → ℕ → Answer
 answerAt r i = getD (r .answers) i (record { number = 0; cpu = []; buffer = []; value = 0 })
 
 -- ---- the demand
+
+-- the strings of a list hold bytes; every real list meets this, since a string is lent as bytes
+abbrev pub ByteStrings : List Call → Type 0
+ByteStrings [] = Unit {0}
+ByteStrings (c ∷ l) = ((s : StepCall) → stepOf c ≡ some s → Bytes (s .string)) × ByteStrings l
 
 -- after a power-on p that was not refused, the calls were made and gave r
 pub record Demand3 (p : PowerOn) (calls : List Call) (r : Run) : Type 0 where

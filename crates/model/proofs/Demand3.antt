@@ -1,0 +1,275 @@
+-- Demand 3 holds: along every list of calls from a power-on that was not refused.
+-- Assumes nothing.
+use mathlib.Core.Path.{_≡_, _∙_, refl, sym, ap, ap₂, subst}
+use mathlib.Core.Bool.{Bool, true, false, cond, not, _&&_}
+use mathlib.Core.List.{List, [], _∷_, _++_, map, append-assoc}
+use mathlib.Core.Option.{Option, none, some, Option·map, Option·some-injective, Option·none-ne-some}
+use Prim.Native.Nat.{ℕ, zero, suc, _+_, _^_, _<_, _≤_}
+use native.Mathlib.Omega.{arith}
+use lib.Dec.{T, eqb, ltb, lt→ltb}
+use lib.ListN.{length, getD, take}
+use borrow.Author.Tests.{ltb-false, lt-ltb}
+use Rattle.bits.specs.Bytes.{Bytes}
+use Rattle.bits.proofs.Choice.{cond-on, and-both, T-true}
+use Rattle.isa.specs.Address.{effectiveAddress}
+use Rattle.isa.specs.Decode.{decode}
+use Rattle.isa.specs.Ranges.{handleLength}
+use Rattle.isa.specs.declared.Decoded.{Decoded}
+use Rattle.isa.specs.declared.Decoded.the-variants as decoded
+use Rattle.isa.specs.declared.EncodeKey.{EncodeKey}
+use Rattle.isa.specs.declared.Instruction.{Instruction}
+use Rattle.isa.specs.declared.Instruction.the-variants as instruction
+use Rattle.isa.specs.declared.Operand.{Operand}
+use Rattle.isa.specs.declared.Operand.the-variants as operand
+use Rattle.isa.proofs.Fitting.{OnFound, decoded-fits}
+use Rattle.isa.proofs.Ranges.{outside-ends, length-some}
+use Rattle.model.specs.Records.{processorAt}
+use Rattle.model.specs.Cpu.{xmm, zf}
+use Rattle.model.specs.Forms.{Form, single, wide, formOf, handleAddress, handleRead}
+use Rattle.model.specs.Calls.{PowerOn, StepCall, Call, step, read, write, settle, sleep, reset, stepOf, Answer, Outcome}
+use Rattle.model.specs.Refusals.{View, outside, refusal}
+use Rattle.model.specs.Instructions.{encodedHandle, encoded, used, execute, advanced, stepped, executed}
+use Rattle.model.specs.Execution.{viewOf, perform, numberOf, call, run, powerOn}
+use Rattle.model.specs.History.{keyOf, nameAt, atFirst, viewGiven, history, refusals}
+use Rattle.model.specs.Demand3.{Encode, encodeMade, encodeIn, UseMade, useMade, useIn, encodeOf, useOf, Agree, Works, answerAt, given, allOf, everyName, ByteStrings, Demand3}
+use Rattle.model.specs.declared.IwKey.{IwKey}
+use Rattle.model.specs.declared.Machine.{Machine}
+use Rattle.model.proofs.Parts.{part-length}
+use Rattle.model.proofs.Cpu.{registers}
+use Rattle.model.proofs.Uses.{handle-given, use-zf, use-xmm}
+use Rattle.model.proofs.Frames.{call-performed, call-number}
+use Rattle.model.proofs.Refusals.{processor-below, cpu-length, memory-length, handle-inside, never-1}
+use Rattle.model.proofs.Validities.{power-on-valid}
+use Rattle.model.proofs.Histories.{Holds, key-at, name-given, key-more, number-told, holds-first, holds-run, numbers-run}
+
+-- ---- what an encode and a use are
+
+-- a property of every call that is an encode
+encode-cases : (Q : Call → Encode → Type 0)
+    → ((s : StepCall) (i : EncodeKey) (lock : Bool) (bytes : ℕ) → decode (s .string) ≡ decoded.Found (instruction.EncodeKey i) lock bytes
+    → Q (step s) (encodeMade s i))
+    → (c : Call) (e : Encode) → _≡_ {A = Option Encode} (encodeOf c) (some e) → Q c e
+encode-cases Q f (step s) e q = go (decode (s .string)) refl q
+  where
+    go : (d : Decoded) → decode (s .string) ≡ d → _≡_ {A = Option Encode} (encodeIn s d) (some e) → Q (step s) e
+    go (decoded.Found (instruction.Use u) lock bytes) r q = absurd (Option·none-ne-some e q)
+    go (decoded.Found (instruction.WideUse u) lock bytes) r q = absurd (Option·none-ne-some e q)
+    go (decoded.Found (instruction.LoadIwKey l) lock bytes) r q = absurd (Option·none-ne-some e q)
+    go (decoded.Found (instruction.EncodeKey i) lock bytes) r q =
+        subst (λ (x : Encode). Q (step s) x) (Option·some-injective (encodeMade s i) e q) (f s i lock bytes r)
+    go decoded.BadByte r q = absurd (Option·none-ne-some e q)
+    go decoded.EndOfString r q = absurd (Option·none-ne-some e q)
+encode-cases Q f (read r) e q = absurd (Option·none-ne-some e q)
+encode-cases Q f (write w) e q = absurd (Option·none-ne-some e q)
+encode-cases Q f (settle s) e q = absurd (Option·none-ne-some e q)
+encode-cases Q f (sleep s) e q = absurd (Option·none-ne-some e q)
+encode-cases Q f reset e q = absurd (Option·none-ne-some e q)
+
+-- a property of every call that is a use
+use-cases : (Q : Call → UseMade → Type 0)
+    → ((s : StepCall) (what : Instruction) (lock : Bool) (bytes : ℕ) (f : Form) → decode (s .string) ≡ decoded.Found what lock bytes
+    → _≡_ {A = Option Form} (formOf what) (some f) → Q (step s) (useMade s bytes f))
+    → (c : Call) (u : UseMade) → _≡_ {A = Option UseMade} (useOf c) (some u) → Q c u
+use-cases Q g (step s) u q = go (decode (s .string)) refl q
+  where
+    found : (what : Instruction) (lock : Bool) (bytes : ℕ) → decode (s .string) ≡ decoded.Found what lock bytes
+        → (o : Option Form) → _≡_ {A = Option Form} (formOf what) o → _≡_ {A = Option UseMade} (Option·map (useMade s bytes) o) (some u) → Q (step s) u
+    found what lock bytes r none t q = absurd (Option·none-ne-some u q)
+    found what lock bytes r (some f) t q =
+        subst (λ (x : UseMade). Q (step s) x) (Option·some-injective (useMade s bytes f) u q) (g s what lock bytes f r t)
+    go : (d : Decoded) → decode (s .string) ≡ d → _≡_ {A = Option UseMade} (useIn s d) (some u) → Q (step s) u
+    go (decoded.Found what lock bytes) r q = found what lock bytes r (formOf what) refl q
+    go decoded.BadByte r q = absurd (Option·none-ne-some u q)
+    go decoded.EndOfString r q = absurd (Option·none-ne-some u q)
+use-cases Q g (read r) u q = absurd (Option·none-ne-some u q)
+use-cases Q g (write w) u q = absurd (Option·none-ne-some u q)
+use-cases Q g (settle s) u q = absurd (Option·none-ne-some u q)
+use-cases Q g (sleep s) u q = absurd (Option·none-ne-some u q)
+use-cases Q g reset u q = absurd (Option·none-ne-some u q)
+
+-- the CPU record after an instruction that was decoded
+executed-cpu : (s : StepCall) (k : IwKey) (what : Instruction) (lock : Bool) (bytes : ℕ) → decode (s .string) ≡ decoded.Found what lock bytes
+    → executed s k .cpu ≡ advanced bytes (execute (s .memory) (s .random) what bytes k (s .cpu) .cpu)
+unfolding executed
+executed-cpu s k what lock bytes q = ap (λ (d : Decoded). stepped s k d .cpu) q
+
+execute-form : (memory random : List ℕ) (what : Instruction) (bytes : ℕ) (k : IwKey) (cpu : List ℕ) (f : Form)
+    → _≡_ {A = Option Form} (formOf what) (some f) → execute memory random what bytes k cpu .cpu ≡ used memory bytes f k cpu
+execute-form memory random (instruction.Use u) bytes k cpu f q =
+    ap (λ (x : Form). used memory bytes x k cpu) (Option·some-injective (single u) f q)
+execute-form memory random (instruction.WideUse u) bytes k cpu f q =
+    ap (λ (x : Form). used memory bytes x k cpu) (Option·some-injective (wide u) f q)
+execute-form memory random (instruction.LoadIwKey l) bytes k cpu f q = absurd (Option·none-ne-some f q)
+execute-form memory random (instruction.EncodeKey e) bytes k cpu f q = absurd (Option·none-ne-some f q)
+
+-- ---- the blocks of a use are registers, and its handle is in memory
+
+form-registers : (s : List ℕ) → Bytes s → (what : Instruction) (lock : Bool) (bytes : ℕ) (f : Form) → decode s ≡ decoded.Found what lock bytes
+    → _≡_ {A = Option Form} (formOf what) (some f) → T (registers (f .blocks))
+form-registers s b (instruction.Use u) lock bytes f r q =
+    let fits = subst OnFound r (decoded-fits s b 0) in
+    subst (λ (x : Form). T (registers (x .blocks))) (Option·some-injective (single u) f q)
+    (and-both (ltb (u .block) 16 && true) true (and-both (ltb (u .block) 16) true (lt→ltb (u .block) 16 (fits .0)) tt) tt)
+form-registers s b (instruction.WideUse u) lock bytes f r q =
+    subst (λ (x : Form). T (registers (x .blocks))) (Option·some-injective (wide u) f q) tt
+form-registers s b (instruction.LoadIwKey l) lock bytes f r q = absurd (Option·none-ne-some f q)
+form-registers s b (instruction.EncodeKey e) lock bytes f r q = absurd (Option·none-ne-some f q)
+
+address-lt : (cpu : List ℕ) (bytes : ℕ) (o : Operand) → handleAddress cpu bytes o .linear < 2 ^ 64
+unfolding effectiveAddress
+address-lt cpu bytes (operand.Register n) = omega arith
+address-lt cpu bytes (operand.Memory p) = omega arith
+
+read-length : (v : View) (s : StepCall) → refusal v (step s) ≡ 0 → (what : Instruction) (lock : Bool) (bytes : ℕ) (f : Form)
+    → decode (s .string) ≡ decoded.Found what lock bytes → _≡_ {A = Option Form} (formOf what) (some f)
+    → length (handleRead (s .memory) (s .cpu) bytes f) ≡ handleLength (f .size)
+read-length v s a what lock bytes f r q =
+    let at = handleAddress (s .cpu) bytes (f .handle) .linear in
+    let n = handleLength (f .size) in
+    let few = memory-length v s a in
+    let inside : ltb (length (s .memory)) (at + n) ≡ false =
+      sym (outside-ends (length (s .memory)) at n (omega arith) (address-lt (s .cpu) bytes (f .handle)) (length-some (f .size)))
+      ∙ handle-inside v s a what lock bytes f r q in
+    part-length (s .memory) n at (ltb-false (length (s .memory)) (at + n) inside)
+
+-- ---- a use of an encoded handle
+
+module _ (p : PowerOn) (m : Machine) (first : Holds p [] m (atFirst p)) where
+  -- answer by answer
+  answer-at : (n : Machine) (xs : List Call) (c : Call) (ys : List Call) → answerAt (run n (xs ++ c ∷ ys)) (length xs) ≡ call (run n xs .machine) c .answer
+  answer-at n [] c ys = refl
+  answer-at n (x ∷ xs) c ys = answer-at (call n x .machine) xs c ys
+
+  abbrev machineAfter : List Call → Machine
+  machineAfter xs = run m xs .machine
+
+  holds : (xs : List Call) → Holds p xs (machineAfter xs) (history p xs)
+  holds xs = holds-run p [] xs m (atFirst p) first
+
+  module _ (xs : List Call) (c : Call) (zero : call (machineAfter xs) c .answer .number ≡ 0) where
+    not-refused : refusal (viewGiven p) c ≡ 0
+    not-refused = sym (number-told p xs c (machineAfter xs) (history p xs) (holds xs)) ∙ sym (call-number (machineAfter xs) c) ∙ zero
+
+    was-performed : call (machineAfter xs) c ≡ perform (machineAfter xs) c
+    was-performed = call-performed (machineAfter xs) c (sym (call-number (machineAfter xs) c) ∙ zero)
+
+  -- the CPU record after a step: under the key that the history names
+  module _ (xs : List Call) (s : StepCall) (done : call (machineAfter xs) (step s) .answer .number ≡ 0)
+      (what : Instruction) (lock : Bool) (bytes : ℕ) (found : decode (s .string) ≡ decoded.Found what lock bytes) where
+    named-key : processorAt (machineAfter xs) (s .processor) .key ≡ keyOf xs (nameAt (s .processor) (history p xs))
+    named-key =
+        key-at p xs (machineAfter xs) (history p xs) (holds xs) (s .processor)
+        (processor-below (viewGiven p) (step s) (s .processor) (not-refused xs (step s) done) refl)
+
+    cpu-after : call (machineAfter xs) (step s) .answer .cpu
+        ≡ advanced bytes (execute (s .memory) (s .random) what bytes (keyOf xs (nameAt (s .processor) (history p xs))) (s .cpu) .cpu)
+    unfolding perform
+    cpu-after =
+        ap (λ (o : Outcome). o .answer .cpu) (was-performed xs (step s) done)
+        ∙ executed-cpu s (processorAt (machineAfter xs) (s .processor) .key) what lock bytes found
+        ∙ ap (λ (k : IwKey). advanced bytes (execute (s .memory) (s .random) what bytes k (s .cpu) .cpu)) named-key
+
+  -- the encode s and, after the calls ys, the use t
+  module _ (xs : List Call) (s : StepCall) (ys : List Call) (t : StepCall) where
+    abbrev between : List Call
+    between = xs ++ step s ∷ ys
+
+    abbrev name : ℕ
+    name = nameAt (s .processor) (history p xs)
+
+    same-key : name ≡ nameAt (t .processor) (history p between) → keyOf between (nameAt (t .processor) (history p between)) ≡ keyOf xs name
+    same-key q =
+        ap (keyOf between) (sym q) ∙ key-more p xs (step s ∷ ys) name (name-given p xs (machineAfter xs) (history p xs) (holds xs) (s .processor))
+
+    steps-work : Bytes (t .string)
+        → (i : EncodeKey) (lock : Bool) (bytes : ℕ) → decode (s .string) ≡ decoded.Found (instruction.EncodeKey i) lock bytes
+        → call (machineAfter xs) (step s) .answer .number ≡ 0
+        → (what : Instruction) (lock′ : Bool) (bytes′ : ℕ) (f : Form) → decode (t .string) ≡ decoded.Found what lock′ bytes′
+        → _≡_ {A = Option Form} (formOf what) (some f) → call (machineAfter between) (step t) .answer .number ≡ 0
+        → name ≡ nameAt (t .processor) (history p between)
+        → Agree (useMade t bytes′ f .bytesRead) (take (handleLength (i .size)) (call (machineAfter xs) (step s) .answer .cpu))
+        → Works (encodeMade s i) (useMade t bytes′ f) (call (machineAfter between) (step t) .answer .cpu)
+    steps-work b i lock bytes r ne what lock′ bytes′ f r′ q nu names agree =
+        let k = keyOf xs name in
+        let l = cpu-length (viewGiven p) s (not-refused xs (step s) ne) in
+        let accepted = not-refused between (step t) nu in
+        let l′ = cpu-length (viewGiven p) t accepted in
+        let given-handle : take (handleLength (i .size)) (call (machineAfter xs) (step s) .answer .cpu) ≡ encodedHandle i k (s .cpu) =
+          ap (take (handleLength (i .size))) (cpu-after xs s ne (instruction.EncodeKey i) lock bytes r) ∙ handle-given i k (s .cpu) l bytes in
+        let same = subst (Agree (useMade t bytes′ f .bytesRead)) given-handle agree in
+        let after : call (machineAfter between) (step t) .answer .cpu ≡ advanced bytes′ (used (t .memory) bytes′ f k (t .cpu)) =
+          cpu-after between t nu what lock′ bytes′ r′
+          ∙ ap (advanced bytes′)
+          (execute-form (t .memory) (t .random) what bytes′ (keyOf between (nameAt (t .processor) (history p between))) (t .cpu) f q)
+          ∙ ap (λ (x : IwKey). advanced bytes′ (used (t .memory) bytes′ f x (t .cpu))) (same-key names) in
+        let fits = form-registers (t .string) b what lock′ bytes′ f r′ q in
+        let n = read-length (viewGiven p) t accepted what lock′ bytes′ f r′ q in
+        (ap zf after ∙ use-zf i k (s .cpu) l (t .memory) bytes′ f fits (t .cpu) l′ n same,
+        λ j h. ap (xmm j) after ∙ use-xmm i k (s .cpu) l (t .memory) bytes′ f fits (t .cpu) l′ n same j h)
+
+  use-works : (xs : List Call) (e : Call) (ys : List Call) (u : Call)
+      → ((t : StepCall) → _≡_ {A = Option StepCall} (stepOf u) (some t) → Bytes (t .string))
+      → (encode : Encode) → _≡_ {A = Option Encode} (encodeOf e) (some encode) → call (machineAfter xs) e .answer .number ≡ 0
+      → (made : UseMade) → _≡_ {A = Option UseMade} (useOf u) (some made) → call (machineAfter (xs ++ e ∷ ys)) u .answer .number ≡ 0
+      → nameAt (encode .processor) (history p xs) ≡ nameAt (made .processor) (history p (xs ++ e ∷ ys))
+      → Agree (made .bytesRead) (take (handleLength (encode .size)) (call (machineAfter xs) e .answer .cpu))
+      → Works encode made (call (machineAfter (xs ++ e ∷ ys)) u .answer .cpu)
+  use-works xs e ys u b encode qe ne made qu nu =
+      encode-cases
+      (λ c x.
+        call (machineAfter xs) c .answer .number ≡ 0 → call (machineAfter (xs ++ c ∷ ys)) u .answer .number ≡ 0
+        → nameAt (x .processor) (history p xs) ≡ nameAt (made .processor) (history p (xs ++ c ∷ ys))
+        → Agree (made .bytesRead) (take (handleLength (x .size)) (call (machineAfter xs) c .answer .cpu))
+        → Works x made (call (machineAfter (xs ++ c ∷ ys)) u .answer .cpu))
+      (λ s i lock bytes r.
+        use-cases
+        (λ c y.
+          ((t : StepCall) → _≡_ {A = Option StepCall} (stepOf c) (some t) → Bytes (t .string))
+          → call (machineAfter xs) (step s) .answer .number ≡ 0 → call (machineAfter (xs ++ step s ∷ ys)) c .answer .number ≡ 0
+          → nameAt (s .processor) (history p xs) ≡ nameAt (y .processor) (history p (xs ++ step s ∷ ys))
+          → Agree (y .bytesRead) (take (handleLength (i .size)) (call (machineAfter xs) (step s) .answer .cpu))
+          → Works (encodeMade s i) y (call (machineAfter (xs ++ step s ∷ ys)) c .answer .cpu))
+        (λ t what lock′ bytes′ f r′ q b′ ne′ nu′ names agree.
+          steps-work xs s ys t (b′ t refl) i lock bytes r ne′ what lock′ bytes′ f r′ q nu′ names agree)
+        u made qu b)
+      e encode qe ne nu
+
+-- ---- the theorem
+
+strings-at : (xs : List Call) (u : Call) (zs : List Call) → ByteStrings (xs ++ u ∷ zs) → (t : StepCall) → _≡_ {A = Option StepCall} (stepOf u) (some t) → Bytes (t .string)
+strings-at [] u zs b = b .0
+strings-at (x ∷ xs) u zs b = strings-at xs u zs (b .1)
+
+never : (p : PowerOn) (calls : List Call) → allOf (λ n. not (eqb n 1)) (refusals p calls) ≡ true
+never p calls = T-true (allOf (λ n. not (eqb n 1)) (refusals p calls)) (go calls)
+  where
+    go : (l : List Call) → T (allOf (λ n. not (eqb n 1)) (refusals p l))
+    go [] = tt
+    go (c ∷ l) =
+        and-both (not (eqb (refusal (viewGiven p) c) 1)) (allOf (λ n. not (eqb n 1)) (refusals p l)) (never-1 (viewGiven p) c) (go l)
+
+pub demand-3 : (p : PowerOn) → powerOn p .answer .number ≡ 0 → (calls : List Call) → ByteStrings calls → Demand3 p calls (run (powerOn p .machine) calls)
+demand-3 p ok calls b =
+    let m = powerOn p .machine in
+    let fresh-valid = power-on-valid p ok in
+    let first : Holds p [] m (atFirst p) = subst (λ (x : Machine). Holds p [] x (atFirst p)) (sym (fresh-valid .0)) (holds-first p (fresh-valid .1)) in
+    let last = holds p m first calls in
+    record {
+      numbers = numbers-run p [] calls m (atFirst p) first;
+      never1 = never p calls;
+      keys = last .keys;
+      names = T-true (everyName (given p calls) (history p calls)) (last .givens);
+      uses =
+          λ xs e ys u zs split encode qe ne made qu nu names agree.
+          let r = run m calls in
+          let again : calls ≡ (xs ++ e ∷ ys) ++ u ∷ zs = split ∙ sym (append-assoc xs (e ∷ ys) (u ∷ zs)) in
+          let gave : answerAt r (length xs) ≡ call (run m xs .machine) e .answer =
+            ap (λ (l : List Call). answerAt (run m l) (length xs)) split ∙ answer-at p m first m xs e (ys ++ u ∷ zs) in
+          let gets : answerAt r (length (xs ++ e ∷ ys)) ≡ call (run m (xs ++ e ∷ ys) .machine) u .answer =
+            ap (λ (l : List Call). answerAt (run m l) (length (xs ++ e ∷ ys))) again ∙ answer-at p m first m (xs ++ e ∷ ys) u zs in
+          subst (λ (a : Answer). Works encode made (a .cpu)) (sym gets)
+          (use-works p m first xs e ys u (strings-at (xs ++ e ∷ ys) u zs (subst ByteStrings again b)) encode qe
+          (ap (λ (a : Answer). a .number) (sym gave) ∙ ne) made qu
+          (ap (λ (a : Answer). a .number) (sym gets) ∙ nu) names
+          (subst (λ (a : Answer). Agree (made .bytesRead) (take (handleLength (encode .size)) (a .cpu))) gave agree));
+    }
