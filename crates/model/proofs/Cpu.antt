@@ -33,12 +33,16 @@ flags-zf z x h =
   where
     six : (x : ℕ) → clearBit 6 x / 2 ^ 6 % 2 ≡ 0
     six x = omega arith
+
     four : (x : ℕ) → clearBit 4 x / 2 ^ 6 ≡ x / 2 ^ 6
     four x = omega arith
+
     two : (x : ℕ) → clearBit 2 x / 2 ^ 6 ≡ x / 2 ^ 6
     two x = omega arith
+
     zeroth : (x : ℕ) → clearBit 0 x / 2 ^ 6 ≡ x / 2 ^ 6
     zeroth x = omega arith
+
     joined : (w : ℕ) → w / 2 ^ 6 % 2 ≡ 0 → (w + z * 2 ^ 6) / 2 ^ 6 % 2 ≡ z
     joined w e = omega arith
 
@@ -105,14 +109,19 @@ xmm-mapped f w (n ∷ l) t cpu e i h = xmm-mapped f w l rest after (length-sets 
   where
     after : List ℕ
     after = withXmm n (f (xmm n cpu)) cpu
+
     front : T (ltb n 16 && not (member n l))
     front = and-left (ltb n 16 && not (member n l)) (registers l) t
+
     rest : T (registers l)
     rest = and-right (ltb n 16 && not (member n l)) (registers l) t
+
     small : n < 16
     small = ltb→lt n 16 (and-left (ltb n 16) (not (member n l)) front)
+
     once : member n l ≡ false
     once = not-true (member n l) (T-true (not (member n l)) (and-right (ltb n 16) (not (member n l)) front))
+
     go : (t : Bool) → eqb i n ≡ t
         → cond (member i l) (f (xmm i after)) (xmm i after) ≡ cond (t || member i l) (f (xmm i cpu)) (xmm i cpu)
     go true q =

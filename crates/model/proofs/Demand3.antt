@@ -77,6 +77,7 @@ use-cases Q g (step s) u q = go (decode (s .string)) refl q
     found what lock bytes r none t q = absurd (Option·none-ne-some u q)
     found what lock bytes r (some f) t q =
         subst (λ (x : UseMade). Q (step s) x) (Option·some-injective (useMade s bytes f) u q) (g s what lock bytes f r t)
+
     go : (d : Decoded) → decode (s .string) ≡ d → _≡_ {A = Option UseMade} (useIn s d) (some u) → Q (step s) u
     go (decoded.Found what lock bytes) r q = found what lock bytes r (formOf what) refl q
     go decoded.BadByte r q = absurd (Option·none-ne-some u q)
@@ -128,8 +129,8 @@ read-length v s a what lock bytes f r q =
     let n = handleLength (f .size) in
     let few = memory-length v s a in
     let inside : ltb (length (s .memory)) (at + n) ≡ false =
-      sym (outside-ends (length (s .memory)) at n (omega arith) (address-lt (s .cpu) bytes (f .handle)) (length-some (f .size)))
-      ∙ handle-inside v s a what lock bytes f r q in
+    sym (outside-ends (length (s .memory)) at n (omega arith) (address-lt (s .cpu) bytes (f .handle)) (length-some (f .size)))
+    ∙ handle-inside v s a what lock bytes f r q in
     part-length (s .memory) n at (ltb-false (length (s .memory)) (at + n) inside)
 
 -- ---- a use of an encoded handle
@@ -195,17 +196,18 @@ module _ (p : PowerOn) (m : Machine) (first : Holds p [] m (atFirst p)) where
         let accepted = not-refused between (step t) nu in
         let l′ = cpu-length (viewGiven p) t accepted in
         let given-handle : take (handleLength (i .size)) (call (machineAfter xs) (step s) .answer .cpu) ≡ encodedHandle i k (s .cpu) =
-          ap (take (handleLength (i .size))) (cpu-after xs s ne (instruction.EncodeKey i) lock bytes r) ∙ handle-given i k (s .cpu) l bytes in
+        ap (take (handleLength (i .size))) (cpu-after xs s ne (instruction.EncodeKey i) lock bytes r) ∙ handle-given i k (s .cpu) l bytes in
         let same = subst (Agree (useMade t bytes′ f .bytesRead)) given-handle agree in
         let after : call (machineAfter between) (step t) .answer .cpu ≡ advanced bytes′ (used (t .memory) bytes′ f k (t .cpu)) =
-          cpu-after between t nu what lock′ bytes′ r′
-          ∙ ap (advanced bytes′)
-          (execute-form (t .memory) (t .random) what bytes′ (keyOf between (nameAt (t .processor) (history p between))) (t .cpu) f q)
-          ∙ ap (λ (x : IwKey). advanced bytes′ (used (t .memory) bytes′ f x (t .cpu))) (same-key names) in
+        cpu-after between t nu what lock′ bytes′ r′
+        ∙ ap (advanced bytes′)
+        (execute-form (t .memory) (t .random) what bytes′ (keyOf between (nameAt (t .processor) (history p between))) (t .cpu) f q)
+        ∙ ap (λ (x : IwKey). advanced bytes′ (used (t .memory) bytes′ f x (t .cpu))) (same-key names) in
         let fits = form-registers (t .string) b what lock′ bytes′ f r′ q in
-        let n = read-length (viewGiven p) t accepted what lock′ bytes′ f r′ q in
-        (ap zf after ∙ use-zf i k (s .cpu) l (t .memory) bytes′ f fits (t .cpu) l′ n same,
-        λ j h. ap (xmm j) after ∙ use-xmm i k (s .cpu) l (t .memory) bytes′ f fits (t .cpu) l′ n same j h)
+        let n = read-length (viewGiven p) t accepted what lock′ bytes′ f r′ q in (
+          ap zf after ∙ use-zf i k (s .cpu) l (t .memory) bytes′ f fits (t .cpu) l′ n same,
+          λ j h. ap (xmm j) after ∙ use-xmm i k (s .cpu) l (t .memory) bytes′ f fits (t .cpu) l′ n same j h,
+        )
 
   use-works : (xs : List Call) (e : Call) (ys : List Call) (u : Call)
       → ((t : StepCall) → _≡_ {A = Option StepCall} (stepOf u) (some t) → Bytes (t .string))
@@ -217,21 +219,21 @@ module _ (p : PowerOn) (m : Machine) (first : Holds p [] m (atFirst p)) where
   use-works xs e ys u b encode qe ne made qu nu =
       encode-cases
       (λ c x.
-        call (machineAfter xs) c .answer .number ≡ 0 → call (machineAfter (xs ++ c ∷ ys)) u .answer .number ≡ 0
-        → nameAt (x .processor) (history p xs) ≡ nameAt (made .processor) (history p (xs ++ c ∷ ys))
-        → Agree (made .bytesRead) (take (handleLength (x .size)) (call (machineAfter xs) c .answer .cpu))
-        → Works x made (call (machineAfter (xs ++ c ∷ ys)) u .answer .cpu))
+      call (machineAfter xs) c .answer .number ≡ 0 → call (machineAfter (xs ++ c ∷ ys)) u .answer .number ≡ 0
+      → nameAt (x .processor) (history p xs) ≡ nameAt (made .processor) (history p (xs ++ c ∷ ys))
+      → Agree (made .bytesRead) (take (handleLength (x .size)) (call (machineAfter xs) c .answer .cpu))
+      → Works x made (call (machineAfter (xs ++ c ∷ ys)) u .answer .cpu))
       (λ s i lock bytes r.
-        use-cases
-        (λ c y.
-          ((t : StepCall) → _≡_ {A = Option StepCall} (stepOf c) (some t) → Bytes (t .string))
-          → call (machineAfter xs) (step s) .answer .number ≡ 0 → call (machineAfter (xs ++ step s ∷ ys)) c .answer .number ≡ 0
-          → nameAt (s .processor) (history p xs) ≡ nameAt (y .processor) (history p (xs ++ step s ∷ ys))
-          → Agree (y .bytesRead) (take (handleLength (i .size)) (call (machineAfter xs) (step s) .answer .cpu))
-          → Works (encodeMade s i) y (call (machineAfter (xs ++ step s ∷ ys)) c .answer .cpu))
-        (λ t what lock′ bytes′ f r′ q b′ ne′ nu′ names agree.
-          steps-work xs s ys t (b′ t refl) i lock bytes r ne′ what lock′ bytes′ f r′ q nu′ names agree)
-        u made qu b)
+      use-cases
+      (λ c y.
+      ((t : StepCall) → _≡_ {A = Option StepCall} (stepOf c) (some t) → Bytes (t .string))
+      → call (machineAfter xs) (step s) .answer .number ≡ 0 → call (machineAfter (xs ++ step s ∷ ys)) c .answer .number ≡ 0
+      → nameAt (s .processor) (history p xs) ≡ nameAt (y .processor) (history p (xs ++ step s ∷ ys))
+      → Agree (y .bytesRead) (take (handleLength (i .size)) (call (machineAfter xs) (step s) .answer .cpu))
+      → Works (encodeMade s i) y (call (machineAfter (xs ++ step s ∷ ys)) c .answer .cpu))
+      (λ t what lock′ bytes′ f r′ q b′ ne′ nu′ names agree.
+      steps-work xs s ys t (b′ t refl) i lock bytes r ne′ what lock′ bytes′ f r′ q nu′ names agree)
+      u made qu b)
       e encode qe ne nu
 
 -- ---- the theorem
@@ -264,9 +266,9 @@ demand-3 p ok calls b =
           let r = run m calls in
           let again : calls ≡ (xs ++ e ∷ ys) ++ u ∷ zs = split ∙ sym (append-assoc xs (e ∷ ys) (u ∷ zs)) in
           let gave : answerAt r (length xs) ≡ call (run m xs .machine) e .answer =
-            ap (λ (l : List Call). answerAt (run m l) (length xs)) split ∙ answer-at p m first m xs e (ys ++ u ∷ zs) in
+          ap (λ (l : List Call). answerAt (run m l) (length xs)) split ∙ answer-at p m first m xs e (ys ++ u ∷ zs) in
           let gets : answerAt r (length (xs ++ e ∷ ys)) ≡ call (run m (xs ++ e ∷ ys) .machine) u .answer =
-            ap (λ (l : List Call). answerAt (run m l) (length (xs ++ e ∷ ys))) again ∙ answer-at p m first m (xs ++ e ∷ ys) u zs in
+          ap (λ (l : List Call). answerAt (run m l) (length (xs ++ e ∷ ys))) again ∙ answer-at p m first m (xs ++ e ∷ ys) u zs in
           subst (λ (a : Answer). Works encode made (a .cpu)) (sym gets)
           (use-works p m first xs e ys u (strings-at (xs ++ e ∷ ys) u zs (subst ByteStrings again b)) encode qe
           (ap (λ (a : Answer). a .number) (sym gave) ∙ ne) made qu

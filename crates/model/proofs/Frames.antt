@@ -5,6 +5,7 @@ use mathlib.Core.Bool.{Bool, true, false, cond, not}
 use mathlib.Core.List.{List, [], _∷_}
 use mathlib.Core.Option.{Option, none, some}
 use Prim.Native.Nat.{ℕ, zero, suc}
+use native.Mathlib.Nat.{suc-ne-zero}
 use lib.Dec.{T, eqb}
 use borrow.Author.Tests.{eqb-true, eqb-false, eq-eqb, ne-eqb}
 use lib.ListN.{getD, set, List·getD-map}
@@ -59,6 +60,14 @@ module _ (m : Machine) (c : Call) where
   pub call-number : call m c .answer .number ≡ numberOf m c
   call-number = by-number (λ o. o .answer .number ≡ numberOf m c) (λ e. performed-number m c ∙ sym e) (λ e. refl)
 
+  -- a call that is performed passes 1 and every test
+  pub accepted-parts : numberOf m c ≡ 0 → T (valid m) × (refusal (viewOf m) c ≡ 0)
+  accepted-parts e = go (valid m) e
+    where
+      go : (b : Bool) → cond b (refusal (viewOf m) c) 1 ≡ 0 → T b × (refusal (viewOf m) c ≡ 0)
+      go true e = (tt, e)
+      go false e = absurd (suc-ne-zero 0 e)
+
   -- machine, CPU record and buffers are as lent
   pub refused-kept : (call m c .answer .number ≡ 0 → ⊥) → call m c ≡ refused (numberOf m c) m c
   refused-kept e = call-stopped (λ q. e (call-number ∙ q))
@@ -77,6 +86,7 @@ executed-key s k = go (decode (s .string))
     kept : (t : Bool) (a b : Executed) → cond t a b .key ≡ cond (not t) (b .key) (a .key)
     kept true a b = refl
     kept false a b = refl
+
     go : (d : Decoded) → stepped s k d .key ≡ cond (makes s (loadIn d)) (keyMade s (loadIn d)) k
     go (decoded.Found (instruction.Use u) lock bytes) = refl
     go (decoded.Found (instruction.WideUse u) lock bytes) = refl
@@ -100,9 +110,9 @@ module _ (m : Machine) (s : StepCall) where
   step-loads q =
       by-number m (step s) (λ o. o .machine ≡ m)
       (λ e.
-        ap (λ (k : IwKey). withProcessor (s .processor) (withKey k entry) m)
-        (executed-key s (entry .key) ∙ cond-off q (keyIn (step s)) (entry .key))
-        ∙ ap (λ (l : List Processor). withProcessors l m) (set-getD (m .processors) (s .processor) noProcessor))
+      ap (λ (k : IwKey). withProcessor (s .processor) (withKey k entry) m)
+      (executed-key s (entry .key) ∙ cond-off q (keyIn (step s)) (entry .key))
+      ∙ ap (λ (l : List Processor). withProcessors l m) (set-getD (m .processors) (s .processor) noProcessor))
       (λ e. refl)
 
   pub step-platform : left .platform ≡ m .platform
@@ -121,9 +131,9 @@ module _ (m : Machine) (s : StepCall) where
   step-status p =
       by-number m (step s) (λ o. processorAt (o .machine) p .«copy_status» ≡ processorAt m p .«copy_status»)
       (λ e.
-        let l = m .processors in
-        let x = withKey (executed s (entry .key) .key) entry in
-        sym (List·getD-map (λ (r : Processor). r .«copy_status») (set l (s .processor) x) p noProcessor)
-        ∙ ap (λ (t : List ℕ). getD t p 0) (map-set-same (λ (r : Processor). r .«copy_status») l (s .processor) x noProcessor refl)
-        ∙ List·getD-map (λ (r : Processor). r .«copy_status») l p noProcessor)
+      let l = m .processors in
+      let x = withKey (executed s (entry .key) .key) entry in
+      sym (List·getD-map (λ (r : Processor). r .«copy_status») (set l (s .processor) x) p noProcessor)
+      ∙ ap (λ (t : List ℕ). getD t p 0) (map-set-same (λ (r : Processor). r .«copy_status») l (s .processor) x noProcessor refl)
+      ∙ List·getD-map (λ (r : Processor). r .«copy_status») l p noProcessor)
       (λ e. refl)

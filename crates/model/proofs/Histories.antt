@@ -79,10 +79,10 @@ last-given p past c l a =
     let f = refusal (viewGiven p) in
     let more : length calls ≡ i + 1 = length-append past (c ∷ []) in
     let number : getD (refusals p calls) i 0 ≡ 0 =
-      ap (λ (r : List ℕ). getD r i 0) (map-append f past (c ∷ []))
-      ∙ ap (λ (n : ℕ). getD (map f past ++ f c ∷ []) n 0) (sym (length-map past f))
-      ∙ getD-append-seam (map f past) (f c) [] 0
-      ∙ a in
+    ap (λ (r : List ℕ). getD r i 0) (map-append f past (c ∷ []))
+    ∙ ap (λ (n : ℕ). getD (map f past ++ f c ∷ []) n 0) (sym (length-map past f))
+    ∙ getD-append-seam (map f past) (f c) [] 0
+    ∙ a in
     and-both (ltb i (length calls)) (loadsKey (callAt calls i) && eqb (getD (refusals p calls) i 0) 0)
     (lt→ltb i (length calls) (omega arith))
     (and-both (loadsKey (callAt calls i)) (eqb (getD (refusals p calls) i 0) 0) (true-T (loadsKey (callAt calls i)) (ap loadsKey (last-call past c) ∙ l))
@@ -174,6 +174,7 @@ key-no-backup p past (suc i) t =
     made s (some l) t =
         on-cond (λ k. k .«no_backup» ≡ noBackup (s .cpu)) (eqb (keySource (s .cpu)) 1) (mixedWith (s .random) (plainKey l (s .cpu)))
         (plainKey l (s .cpu)) (λ e. refl) (λ e. refl)
+
     go : (c : Call) → T (loadsKey c) → keyIn c .«no_backup» ≡ noBackupIn c
     go (step s) t = made s (loadIn (decode (s .string))) t
     go (read r) t = refl
@@ -307,6 +308,7 @@ module _ (p : PowerOn) (past : List Call) (c : Call) (m : Machine) (h : History)
       where
         last : callAt calls (length past) ≡ step s
         last = last-call past c ∙ e
+
         go : (t : Bool) → loads s ≡ t → executed s (entry .key) .key ≡ cond (loads s) (keyIn (step s)) (entry .key)
             → Moved p calls (withProcessor q (withKey (executed s (entry .key) .key) entry) m) (cond t (renamed q (suc (length past)) h) h)
         go true l k =
@@ -351,15 +353,16 @@ module _ (p : PowerOn) (past : List Call) (c : Call) (m : Machine) (h : History)
       out-moved =
           subst
           (λ (t : Bool).
-            Moved p calls
-            (after (cond t (record { processor = withCopyStatus 0 entry; platform = m .platform }) (record { processor = withCopyStatus 1 entry; platform = out })))
-            (cond (eqb (h .pending) 0 && eqb (noBackupOf past (nameAt q h)) 0)
-            (record { names = h .names; backup = some (nameAt q h); store = h .store; pending = 1 }) h))
+          Moved p calls
+          (after (cond t (record { processor = withCopyStatus 0 entry; platform = m .platform }) (record { processor = withCopyStatus 1 entry; platform = out })))
+          (cond (eqb (h .pending) 0 && eqb (noBackupOf past (nameAt q h)) 0)
+          (record { names = h .names; backup = some (nameAt q h); store = h .store; pending = 1 }) h))
           (sym fails-told)
           (go (eqb (h .pending) 0 && eqb (noBackupOf past (nameAt q h)) 0))
         where
           out : Platform
           out = withBackup (holding (entry .key)) (withPending 1 (withValid 0 (withError 0 (withConsumed 0 (m .platform)))))
+
           go : (t : Bool)
               → Moved p calls
               (after (cond (not t) (record { processor = withCopyStatus 0 entry; platform = m .platform })
@@ -381,10 +384,12 @@ module _ (p : PowerOn) (past : List Call) (c : Call) (m : Machine) (h : History)
       where
         f : Platform
         f = m .platform
+
         copied : Bool → Copied
         copied t =
             cond t (record { processor = withCopyStatus 1 (withKey (m .platform .backup .key) entry); platform = m .platform })
             (record { processor = withCopyStatus 0 entry; platform = m .platform })
+
         go : (o : Option ℕ) → _≡_ {A = Option IwKey} (slotKey (m .platform .backup)) (Option·map (keyOf calls) o) → T (orNone (given p calls) o)
             → Moved p calls
             (withPlatform (copied (eqb (m .platform .backup .present) 1) .platform)
@@ -410,6 +415,7 @@ module _ (p : PowerOn) (past : List Call) (c : Call) (m : Machine) (h : History)
         did : Bool → Bool → Copied
         did t o =
             cond t (cond o (copyOut entry (m .platform)) (copyIn entry (m .platform))) (record { processor = entry; platform = m .platform })
+
         go : (t o : Bool)
             → Moved p calls (withPlatform (did t o .platform) (withProcessor q (did t o .processor) m))
             (cond t (cond o (copiedOut past q h) (gets q (h .backup) h)) h)
@@ -436,13 +442,14 @@ module _ (p : PowerOn) (past : List Call) (c : Call) (m : Machine) (h : History)
   settle-moved code =
       subst
       (λ (n : ℕ).
-        Moved p calls (withPlatform (settled code (m .platform)) m)
-        (cond (eqb n 1) (record { names = h .names; backup = h .backup; store = cond (eqb code 0) (h .backup) none; pending = 0 }) h))
+      Moved p calls (withPlatform (settled code (m .platform)) m)
+      (cond (eqb n 1) (record { names = h .names; backup = h .backup; store = cond (eqb code 0) (h .backup) none; pending = 0 }) h))
       (λ j. inv .keys j .pending)
       (go (eqb (m .platform .pending) 1) (eqb code 0))
     where
       f : Platform
       f = m .platform
+
       go : (t o : Bool)
           → Moved p calls
           (withPlatform
@@ -488,14 +495,16 @@ module _ (p : PowerOn) (past : List Call) (c : Call) (m : Machine) (h : History)
       by true o = refl
       by false true = backup-named
       by false false = store-named
+
       kept : _≡_ {A = Option IwKey} (slotKey (storeKept code (m .platform))) (Option·map (keyOf calls) (nameKept code h))
       kept =
           subst
           (λ (n : ℕ).
-            _≡_ {A = Option IwKey} (slotKey (storeKept code (m .platform)))
-            (Option·map (keyOf calls) (cond (eqb code 2) none (cond (eqb code 1 && eqb n 1) (h .backup) (h .store)))))
+          _≡_ {A = Option IwKey} (slotKey (storeKept code (m .platform)))
+          (Option·map (keyOf calls) (cond (eqb code 2) none (cond (eqb code 1 && eqb n 1) (h .backup) (h .store)))))
           (λ j. inv .keys j .pending)
           (by (eqb code 2) (eqb code 1 && eqb (m .platform .pending) 1))
+
       kept-given : T (orNone (given p calls) (nameKept code h))
       kept-given =
           let g : Option ℕ → Type 0 = λ o. T (orNone (given p calls) o) in
@@ -547,15 +556,15 @@ module _ (p : PowerOn) (past : List Call) (c : Call) (m : Machine) (h : History)
   after-call =
       by-number m c (λ o. Moved p (past ++ (c ∷ [])) (o .machine) (next p past c h))
       (λ e.
-        let a = sym number-told ∙ e in
-        subst (λ (g : History). Moved p (past ++ (c ∷ [])) (perform m c .machine) g)
-        (sym (cond-on (eq-eqb (refusal (viewGiven p) c) 0 a) (moved p past c h) h))
-        (performed-moved p past c m h inv a))
+      let a = sym number-told ∙ e in
+      subst (λ (g : History). Moved p (past ++ (c ∷ [])) (perform m c .machine) g)
+      (sym (cond-on (eq-eqb (refusal (viewGiven p) c) 0 a) (moved p past c h) h))
+      (performed-moved p past c m h inv a))
       (λ e.
-        let more = more-past p past c m h inv in
-        subst (λ (g : History). Moved p (past ++ (c ∷ [])) m g)
-        (sym (cond-off (ne-eqb (refusal (viewGiven p) c) 0 (λ q. e (number-told ∙ q))) (moved p past c h) h))
-        (record { entries = more .entries; names = more .names; keys = more .keys; givens = more .givens }))
+      let more = more-past p past c m h inv in
+      subst (λ (g : History). Moved p (past ++ (c ∷ [])) m g)
+      (sym (cond-off (ne-eqb (refusal (viewGiven p) c) 0 (λ q. e (number-told ∙ q))) (moved p past c h) h))
+      (record { entries = more .entries; names = more .names; keys = more .keys; givens = more .givens }))
 
   pub holds-next : Holds p (past ++ (c ∷ [])) (call m c .machine) (next p past c h)
   holds-next =

@@ -7,3 +7,7 @@ pub mod Frames
 pub mod Validities
 pub mod Histories
 pub mod Demand3
+pub mod Bytes
+pub mod Shapes
+pub mod Lent
+pub mod Examples

@@ -100,6 +100,7 @@ illegal-told size used direction x c =
   where
     a : List ℕ
     a = aad (typeOf size) x
+
     morgan : (a b z d : Bool) → (not a || b && not z || not d) ≡ not (a && (not b || z) && d)
     morgan false b z d = refl
     morgan true false z d = refl

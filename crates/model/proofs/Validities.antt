@@ -121,6 +121,7 @@ settled-valid code f t = go (eqb (f .pending) 1) (eqb code 0)
   where
     p : PlatformParts f
     p = platform-parts f t
+
     go : (a b : Bool)
         → T (validPlatform
         (cond a
@@ -143,8 +144,8 @@ unfolding woken
 woken-valid code f t =
     let p = platform-parts f t in
     let kept : T (validSlot (storeKept code f)) =
-      on-cond (λ s. T (validSlot s)) (eqb code 2) absent (cond (eqb code 1 && eqb (f .pending) 1) (f .backup) (f .store)) (λ e. tt)
-      (λ e. on-cond (λ s. T (validSlot s)) (eqb code 1 && eqb (f .pending) 1) (f .backup) (f .store) (λ e. p .backup) (λ e. p .store)) in
+    on-cond (λ s. T (validSlot s)) (eqb code 2) absent (cond (eqb code 1 && eqb (f .pending) 1) (f .backup) (f .store)) (λ e. tt)
+    (λ e. on-cond (λ s. T (validSlot s)) (eqb code 1 && eqb (f .pending) 1) (f .backup) (f .store) (λ e. p .backup) (λ e. p .store)) in
     platform-of (woken code f)
     (record {
       backup = kept;
@@ -182,10 +183,10 @@ out-valid e f t u =
     (record { processor = withCopyStatus 1 e; platform = g })
     (λ q. record { processor = marked 0 e tt (key-of e t); platform = u })
     (λ q.
-      record {
-        processor = marked 1 e tt (key-of e t);
-        platform = platform-of g (record { backup = key-of e t; store = p .store; pending = tt; valid = tt; error = tt; consumed = tt });
-      })
+    record {
+      processor = marked 1 e tt (key-of e t);
+      platform = platform-of g (record { backup = key-of e t; store = p .store; pending = tt; valid = tt; error = tt; consumed = tt });
+    })
 
 in-valid : (e : Processor) (f : Platform) → T (validProcessor true e) → T (validPlatform f) → CopiedValid (copyIn e f)
 unfolding copyIn
@@ -219,6 +220,7 @@ loaded-valid features l random cpu q =
         let d = eqb (noBackup cpu) 1 && not (noBackupSupported features) in
         let e = eqb (keySource cpu) 1 && not (randomSource features) in
         ltb-false 1 (keySource cpu) (or-right a b (or-left (a || b) c (or-left (a || b || c) d (or-left (a || b || c || d) e q))))
+
     v : T (flag (keySource cpu) && flag (noBackup cpu))
     v = and-both (flag (keySource cpu)) (flag (noBackup cpu)) (lt→ltb (keySource cpu) 2 (omega (arith, small))) (lt→ltb (noBackup cpu) 2 (omega arith))
 
@@ -231,6 +233,7 @@ executed-valid v s a k t = subst (λ (x : IwKey). T (validKey x)) (sym (executed
         on-cond (λ x. T (validKey x)) (not (notReady (s .random) (s .cpu))) (loadedKey l (s .random) (s .cpu)) k
         (λ e. loaded-valid (v .features) l (s .random) (s .cpu) (no-fault v s a (instruction.LoadIwKey l) lock bytes q))
         (λ e. t)
+
     go : (d : Decoded) → decode (s .string) ≡ d → T (validKey (cond (makes s (loadIn d)) (keyMade s (loadIn d)) k))
     go (decoded.Found (instruction.Use u) lock bytes) q = t
     go (decoded.Found (instruction.WideUse u) lock bytes) q = t
@@ -284,13 +287,15 @@ power-on-valid p e = go (validCount (p .count) && validFeatures (p .features)) r
     power t =
         cond (eqb (cond (not t) 1 0) 0) (done (fresh (p .count) (p .features)) [] 0)
         (record { machine = fresh 0 0; answer = record { number = cond (not t) 1 0; cpu = []; buffer = []; value = 0 } })
+
     go : (t : Bool) → (validCount (p .count) && validFeatures (p .features)) ≡ t → power t .answer .number ≡ 0
         → (power t .machine ≡ fresh (p .count) (p .features)) × T (valid (fresh (p .count) (p .features)))
     go true q z =
-        let v = true-T (validCount (p .count) && validFeatures (p .features)) q in
-        (refl,
-        fresh-valid (p .count) (p .features) (and-left (validCount (p .count)) (validFeatures (p .features)) v)
-        (and-right (validCount (p .count)) (validFeatures (p .features)) v))
+        let v = true-T (validCount (p .count) && validFeatures (p .features)) q in (
+          refl,
+          fresh-valid (p .count) (p .features) (and-left (validCount (p .count)) (validFeatures (p .features)) v)
+              (and-right (validCount (p .count)) (validFeatures (p .features)) v),
+        )
     go false q z = let n : _≡_ {A = ℕ} 1 0 = z in absurd (omega arith)
 
 perform-valid : (m : Machine) (c : Call) → refusal (viewOf m) c ≡ 0 → T (valid m) → T (valid (perform m c .machine))

@@ -1,8 +1,9 @@
 -- The scope, "Records": the machine as 924 bytes. Each reader looks at the front of a list.
 -- Assumes nothing.
+use mathlib.Core.Path.{_≡_}
 use mathlib.Core.List.{List, [], _∷_, _++_}
 use Prim.Native.Nat.{ℕ, zero, suc, _+_, _*_}
-use lib.ListN.{getD, take, drop}
+use lib.ListN.{length, getD, take, drop}
 use Rattle.model.specs.Numbers.{part}
 use Rattle.model.specs.Records.{processorLimit}
 use Rattle.model.specs.declared.IwKey.{IwKey}
@@ -88,3 +89,22 @@ machineAt t =
       processors = entriesAt processorLimit (drop 2 t);
       platform = platformAt (drop (2 + processorLimit * entrySize) t);
     }
+
+-- ---- the lengths that the declared arrays have, of which the records' types say nothing
+
+pub record ShapedKey (k : IwKey) : Type 0 where
+  pub integrity : length (k .integrity) ≡ 16
+  pub encryption : length (k .encryption) ≡ 32
+
+abbrev pub ShapedEntries : List Processor → Type 0
+ShapedEntries [] = Unit {0}
+ShapedEntries (e ∷ l) = ShapedKey (e .key) × ShapedEntries l
+
+pub record ShapedPlatform (f : Platform) : Type 0 where
+  pub backup : ShapedKey (f .backup .key)
+  pub store : ShapedKey (f .store .key)
+
+pub record Shaped (m : Machine) : Type 0 where
+  pub count : length (m .processors) ≡ processorLimit
+  pub processors : ShapedEntries (m .processors)
+  pub platform : ShapedPlatform (m .platform)

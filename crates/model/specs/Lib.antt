@@ -12,3 +12,4 @@ pub mod History
 pub mod Demand3
 pub mod Layout
 pub mod Lent
+pub mod Examples

@@ -186,7 +186,7 @@ tests v c =
     ∷ test 8 (of (λ s. badByte (decode (s .string))) (stepOf c))
     ∷ test 9 (of (λ s. ended (decode (s .string))) (stepOf c))
     ∷ test 10
-      (ofInstruction (λ s i lock bytes. invalidOpcode (v .features) (control (s .cpu)) lock (needsFirmware i) (needsWide i)) c)
+    (ofInstruction (λ s i lock bytes. invalidOpcode (v .features) (control (s .cpu)) lock (needsFirmware i) (needsWide i)) c)
     ∷ test 11 (ofInstruction (λ s i lock bytes. noMath (control (s .cpu))) c)
     ∷ test 12 (ofInstruction (λ s i lock bytes. instructionFault (v .features) (s .cpu) i bytes) c || registerFault (v .features) c)
     ∷ test 13 (ofInstruction (λ s i lock bytes. of (canonicalFault true (s .cpu) bytes) (formOf i)) c)

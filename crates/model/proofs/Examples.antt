@@ -1,0 +1,99 @@
+-- The scope, "Twelve settled examples": K1 to K12 hold.
+-- Assumes nothing.
+use mathlib.Core.Path.{_≡_, refl, ap}
+use mathlib.Core.List.{List, [], _∷_}
+use Prim.Native.Nat.{ℕ, zero, suc, _+_, _*_}
+use native.Mathlib.Omega.{arith}
+use lib.ListN.{length, getD, take, drop, replicate, length-replicate}
+use lib.Seq.{sets}
+use Rattle.handle.specs.Format.{aad}
+use Rattle.handle.specs.Wrap.{wrapKey}
+use Rattle.handle.proofs.Aad.{aad-length}
+use Rattle.handle.proofs.Wrap.{wrap-length}
+use Rattle.isa.specs.Address.{effectiveAddress}
+use Rattle.isa.specs.Decode.{decodeAt, displacement32, displacementAt, indexOf, sibOf, modrmOf, instructionOf}
+use Rattle.isa.specs.Ranges.{someNotCanonical, someOutside}
+use Rattle.model.specs.Records.{zeroKey}
+use Rattle.model.specs.Cpu.{xmmAt, register, withRegister, withZf}
+use Rattle.model.specs.Validity.{valid}
+use Rattle.model.specs.Refusals.{tests, refusal}
+use Rattle.model.specs.Instructions.{encoded, loadedKey, advanced, executed}
+use Rattle.model.specs.Execution.{perform, call}
+use Rattle.model.specs.declared.IwKey.{IwKey}
+use Rattle.model.specs.Examples.{Every, rax, cpu, randomKey, examples}
+
+-- ---- the examples that encode: what is seen of them does not depend on the tag and the ciphertext
+
+-- a list of n elements, one by one
+abbrev spelled : ℕ → List ℕ → List ℕ
+spelled zero l = []
+spelled (suc n) l = getD l 0 0 ∷ spelled n (drop 1 l)
+
+spelled-eq : (n : ℕ) (l : List ℕ) → length l ≡ n → l ≡ spelled n l
+spelled-eq zero [] h = refl
+spelled-eq zero (x ∷ l) h = absurd (omega arith)
+spelled-eq (suc n) [] h = absurd (omega arith)
+spelled-eq (suc n) (x ∷ l) h = ap (λ (m : List ℕ). x ∷ m) (spelled-eq n l (omega arith))
+
+-- the handle of an all-zero key of n blocks, by type and restrictions
+module _ (k : IwKey) (t r n : ℕ) where
+  abbrev handle : List ℕ
+  handle = wrapKey (k .integrity) (k .encryption) (aad t r) (replicate (16 * n) 0)
+
+  handle-eq : handle ≡ spelled (32 + 16 * n) handle
+  handle-eq =
+      spelled-eq (32 + 16 * n) handle
+      (wrap-length (k .integrity) (k .encryption) (aad t r) (replicate (16 * n) 0) n (aad-length t r) (simp length-replicate))
+
+-- the CPU record after an encode, over the handle and the number in the destination
+abbrev stored : List ℕ → ℕ → List ℕ → List ℕ
+stored c x h = advanced 5 (withZf 0 (withRegister 1 x (sets (sets c (xmmAt 0) h) (xmmAt 4) (replicate (3 * 16) 0))))
+
+k8 : take 16 (stored (rax 7) 0 (handle zeroKey 0 7 1)) ≡ 0x07 ∷ replicate 15 0
+unfolding wrapKey aad
+k8 = ap (λ (h : List ℕ). take 16 (stored (rax 7) 0 h)) (handle-eq zeroKey 0 7 1)
+
+k9 : take 16 (stored (rax 1) 0 (handle zeroKey 1 1 2)) ≡ 0x01 ∷ 0x00 ∷ 0x00 ∷ 0x01 ∷ replicate 12 0
+unfolding wrapKey aad
+k9 = ap (λ (h : List ℕ). take 16 (stored (rax 1) 0 h)) (handle-eq zeroKey 1 1 2)
+
+k11 : register 1 (stored cpu 3 (handle randomKey 0 0 1)) ≡ 3
+k11 = ap (λ (h : List ℕ). register 1 (stored cpu 3 h)) (handle-eq randomKey 0 0 1)
+
+-- ---- all
+
+infixr 67 _also_
+_also_ : {A B : Type 0} → A → B → A × B
+a also b = (a, b)
+
+pub all-hold : Every examples
+unfolding call valid refusal tests perform executed encoded loadedKey
+    decodeAt modrmOf sibOf indexOf displacementAt displacement32 instructionOf effectiveAddress someNotCanonical someOutside
+all-hold =
+    -- K1
+    (refl, tt) also (refl, tt) also
+    -- K2
+    (refl, tt) also (refl, tt) also
+    -- K3
+    (refl, tt) also
+    -- K4
+    (refl, tt) also (refl, refl) also
+    -- K5
+    (refl, tt) also
+    -- K6
+    (refl, refl) also (refl, tt) also
+    -- K7
+    (refl, tt) also
+    -- K8
+    (refl, k8) also (refl, tt) also
+    -- K9
+    (refl, k9) also
+    -- K10
+    (refl, tt) also (refl, refl) also
+    -- K11
+    (refl, k11) also
+    -- K12
+    (refl, tt) also (refl, tt) also
+    -- beside the twelve
+    (refl, tt) also (refl, tt) also
+    tt

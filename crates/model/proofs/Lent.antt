@@ -1,0 +1,88 @@
+-- The calls on lent bytes are the calls on the machine in them.
+-- Assumes nothing.
+use mathlib.Core.Path.{_≡_, refl, sym, ap, subst, _∙_}
+use mathlib.Core.Bool.{Bool, true, false, cond, not, _&&_}
+use mathlib.Core.List.{List, [], _∷_}
+use Prim.Native.Nat.{ℕ}
+use native.Mathlib.Nat.{suc-ne-zero}
+use lib.Dec.{eqb}
+use lib.ListN.{length}
+use borrow.Author.Tests.{eqb-true, eqb-false, eq-eqb, ne-eqb}
+use Rattle.bits.proofs.Choice.{cond-on, cond-off, on-cond}
+use Rattle.model.specs.Calls.{PowerOn, Call, step, read, write, settle, sleep, reset, Outcome}
+use Rattle.model.specs.Validity.{validCount, validFeatures}
+use Rattle.model.specs.Refusals.{test, first}
+use Rattle.model.specs.Execution.{fresh, powerOnRefusal, done, powerOn, perform, numberOf, call, Run, run}
+use Rattle.model.specs.Demand3.{ByteStrings, Demand3}
+use Rattle.model.specs.Layout.{machineSize, machineBytes, machineAt, Shaped}
+use Rattle.model.specs.Lent.{Lent, powerOnLentRefusal, powerOnLent, callLent, runLent}
+use Rattle.model.specs.declared.Machine.{Machine}
+use Rattle.model.proofs.Bytes.{bytes-length, at-bytes}
+use Rattle.model.proofs.Frames.{refused-kept}
+use Rattle.model.proofs.Shapes.{fresh-shaped, call-shaped}
+use Rattle.model.proofs.Validities.{power-on-valid}
+use Rattle.model.proofs.Demand3.{demand-3}
+
+-- ---- a refused call
+
+pub refused-lent : (block : List ℕ) (c : Call) → (callLent block c .answer .number ≡ 0 → ⊥) → callLent block c .block ≡ block
+unfolding callLent
+refused-lent block c =
+    on-cond (λ (x : Lent). (x .answer .number ≡ 0 → ⊥) → x .block ≡ block) (eqb (length block) machineSize) _ _
+    (λ e n. cond-off (ne-eqb (call (machineAt block) c .answer .number) 0 n) (machineBytes (call (machineAt block) c .machine)) block)
+    (λ e n. refl)
+
+-- ---- a call, and a list of calls
+
+-- the block stays where the machine does
+block-after : (m : Machine) (c : Call)
+    → cond (eqb (call m c .answer .number) 0) (machineBytes (call m c .machine)) (machineBytes m) ≡ machineBytes (call m c .machine)
+block-after m c =
+    on-cond (λ (l : List ℕ). l ≡ machineBytes (call m c .machine)) (eqb (call m c .answer .number) 0) _ _ (λ e. refl)
+    (λ e. ap (λ (o : Outcome). machineBytes (o .machine)) (sym (refused-kept m c (eqb-false (call m c .answer .number) 0 e))))
+
+pub call-lent : (m : Machine) (c : Call) → Shaped m
+    → callLent (machineBytes m) c ≡ record { block = machineBytes (call m c .machine); answer = call m c .answer }
+unfolding callLent
+call-lent m c h =
+    let b = machineBytes m in
+    let of : Machine → Lent =
+    λ x.
+    record { block = cond (eqb (call x c .answer .number) 0) (machineBytes (call x c .machine)) b; answer = call x c .answer } in
+    cond-on (eq-eqb (length b) machineSize (bytes-length m h)) (of (machineAt b)) _
+    ∙ ap of (at-bytes m h)
+    ∙ (λ j. record { block = block-after m c j; answer = call m c .answer })
+
+pub run-lent : (calls : List Call) (m : Machine) → Shaped m → runLent (machineBytes m) calls ≡ run m calls
+run-lent [] m h = λ j. record { answers = []; machine = at-bytes m h j }
+run-lent (c ∷ l) m h =
+    ap (λ (x : Lent). record { answers = x .answer ∷ runLent (x .block) l .answers; machine = runLent (x .block) l .machine }) (call-lent m c h)
+    ∙ ap (λ (r : Run). record { answers = call m c .answer ∷ r .answers; machine = r .machine })
+    (run-lent l (call m c .machine) (call-shaped m c h))
+
+-- ---- power-on
+
+pub power-on-lent : (block : List ℕ) (p : PowerOn) → powerOnLent block p .answer .number ≡ 0
+    → (length block ≡ machineSize) × (powerOnLent block p .block ≡ machineBytes (powerOn p .machine)) × (powerOn p .answer .number ≡ 0)
+power-on-lent block p e =
+    let r = allowed (eqb (length block) machineSize) (validCount (p .count)) (validFeatures (p .features)) e in
+    let q : powerOn p ≡ done (fresh (p .count) (p .features)) [] 0 = cond-on (eq-eqb (powerOnRefusal p) 0 (r .1)) _ _ in (
+      eqb-true (length block) machineSize (r .0),
+      cond-on (eq-eqb (powerOnLentRefusal block p) 0 e) _ block ∙ ap (λ (o : Outcome). machineBytes (o .machine)) (sym q),
+      ap (λ (o : Outcome). o .answer .number) q,
+    )
+  where
+    -- refused for neither the length nor what the machine would be refused for
+    allowed : (a b c : Bool) → first (test 1 (not (a && b && c)) ∷ []) ≡ 0 → (a ≡ true) × (first (test 1 (not (b && c)) ∷ []) ≡ 0)
+    allowed true b c e = (refl, e)
+    allowed false b c e = absurd (suc-ne-zero 0 e)
+
+-- ---- demand 3 on one lent block
+
+pub demand-3-lent : (block : List ℕ) (p : PowerOn) → powerOnLent block p .answer .number ≡ 0 → (calls : List Call) → ByteStrings calls
+    → Demand3 p calls (runLent (powerOnLent block p .block) calls)
+demand-3-lent block p ok calls b =
+    let on = power-on-lent block p ok in
+    let m = powerOn p .machine in
+    let shaped : Shaped m = subst Shaped (sym (power-on-valid p (on .2) .0)) (fresh-shaped (p .count) (p .features)) in
+    subst (Demand3 p calls) (sym (ap (λ (t : List ℕ). runLent t calls) (on .1) ∙ run-lent calls m shaped)) (demand-3 p (on .2) calls b)

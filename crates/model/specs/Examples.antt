@@ -1,0 +1,186 @@
+-- The scope, "Twelve settled examples": K1 to K12 as one list, and what it is for an example to hold.
+-- Assumes nothing.
+use mathlib.Core.Path.{_≡_}
+use mathlib.Core.List.{List, [], _∷_, _++_}
+use mathlib.Core.Option.{Option, none, some, Option·map}
+use Prim.Native.Nat.{ℕ}
+use lib.ListN.{take, replicate}
+use lib.Seq.{sets}
+use Rattle.aes.specs.declared.Direction.{Direction}
+use Rattle.aes.specs.declared.Direction.the-variants.{Encrypt, Decrypt}
+use Rattle.aes.specs.declared.KeySize.{KeySize}
+use Rattle.aes.specs.declared.KeySize.the-variants.{Aes256}
+use Rattle.isa.specs.Decode.{decode}
+use Rattle.isa.specs.declared.Decoded.{Decoded}
+use Rattle.isa.specs.declared.Decoded.the-variants as decoded
+use Rattle.model.specs.Records.{processorAt}
+use Rattle.model.specs.Cpu.{cpuSize, controlAt, register, withRegister, withRip}
+use Rattle.model.specs.Forms.{Form, formOf, handleAddress}
+use Rattle.model.specs.Calls.{PowerOn, StepCall, Call, step, Outcome}
+use Rattle.model.specs.Execution.{powerOn, call, run}
+use Rattle.model.specs.declared.IwKey.{IwKey}
+
+-- ---- what an example is
+
+-- what is to be seen of a step, besides its number
+pub data Sight : Type 0 where
+  nothing : Sight
+  -- it is a use with this direction and key size, on these XMM registers, with a handle from this address
+  uses : Direction → KeySize → List ℕ → ℕ → Sight
+  -- the processor's IWKey afterwards
+  keyIs : IwKey → Sight
+  -- the first 16 bytes of the handle in XMM0 and on, afterwards
+  aadIs : List ℕ → Sight
+  -- a register, and its number afterwards
+  registerIs : ℕ → ℕ → Sight
+
+-- a power-on, the calls before, the step that the example is about, its number (0 where it is not refused), and what is to be seen
+pub record Example : Type 0 where
+  pub power : PowerOn
+  pub before : List Call
+  pub last : StepCall
+  pub number : ℕ
+  pub sight : Sight
+
+-- ---- what it is for one to hold
+
+-- what the step gives
+abbrev pub outcome : Example → Outcome
+outcome e = call (run (powerOn (e .power) .machine) (e .before) .machine) (step (e .last))
+
+-- the use in a step, if it is one
+abbrev pub useSeen : StepCall → ℕ → Form → Sight
+useSeen s bytes f = uses (f .direction) (f .size) (f .blocks) (handleAddress (s .cpu) bytes (f .handle) .linear)
+
+abbrev pub seenIn : StepCall → Decoded → Option Sight
+seenIn s (decoded.Found what lock bytes) = Option·map (useSeen s bytes) (formOf what)
+seenIn s decoded.BadByte = none
+seenIn s decoded.EndOfString = none
+
+abbrev pub Seen : Sight → StepCall → Outcome → Type 0
+Seen nothing s o = Unit {0}
+Seen (uses d k b a) s o = seenIn s (decode (s .string)) ≡ some (uses d k b a)
+Seen (keyIs k) s o = processorAt (o .machine) (s .processor) .key ≡ k
+Seen (aadIs a) s o = take 16 (o .answer .cpu) ≡ a
+Seen (registerIs n x) s o = register n (o .answer .cpu) ≡ x
+
+abbrev pub Holds : Example → Type 0
+Holds e = (outcome e .answer .number ≡ e .number) × Seen (e .sight) (e .last) (outcome e)
+
+-- every example of a list holds
+abbrev pub Every : List Example → Type 0
+Every [] = Unit {0}
+Every (e ∷ l) = Holds e × Every l
+
+-- ---- "Control bits 3, all features, CPL 0 unless said."
+
+abbrev pub allFeatures : PowerOn
+allFeatures = record { count = 1; features = 63 }
+
+abbrev pub sixteen : PowerOn
+sixteen = record { count = 16; features = 63 }
+
+abbrev pub noFirmware : PowerOn
+noFirmware = record { count = 1; features = 61 }
+
+-- the CPU record: control bits 3, all else zero
+abbrev pub cpu : List ℕ
+cpu = sets (replicate cpuSize 0) controlAt (3 ∷ [])
+
+abbrev pub rax : ℕ → List ℕ
+rax x = withRegister 0 x cpu
+
+abbrev pub rsp : ℕ → List ℕ
+rsp x = withRegister 4 x cpu
+
+abbrev pub rip : ℕ → List ℕ
+rip x = withRip x cpu
+
+-- a string on a processor, with so many bytes of memory, all zero, and random data
+abbrev pub onProcessor : ℕ → List ℕ → ℕ → List ℕ → List ℕ → StepCall
+onProcessor p c memory random string = record { processor = p; cpu = c; memory = replicate memory 0; random = random; string = string }
+
+-- on the only processor, with no random data
+abbrev pub on : List ℕ → ℕ → List ℕ → StepCall
+on c memory string = onProcessor 0 c memory [] string
+
+-- after a power-on and calls, a step gives a number, and this is seen
+abbrev pub after : PowerOn → List Call → StepCall → ℕ → Sight → Example
+after p before s n x = record { power = p; before = before; last = s; number = n; sight = x }
+
+-- on one processor with all features: the step gives a number
+abbrev pub gives : StepCall → ℕ → Example
+gives s n = after allFeatures [] s n nothing
+
+-- the same: the step is not refused, and this is seen
+abbrev pub shows : StepCall → Sight → Example
+shows s x = after allFeatures [] s 0 x
+
+-- ---- strings
+
+-- AESENC128KL xmm0, [rax]
+abbrev pub encrypt : List ℕ
+encrypt = 0xF3 ∷ 0x0F ∷ 0x38 ∷ 0xDC ∷ 0x00 ∷ []
+
+-- AESENC256KL xmm8, [rip + 16]
+abbrev pub ripRelative : List ℕ
+ripRelative = 0xF3 ∷ 0x44 ∷ 0x0F ∷ 0x38 ∷ 0xDE ∷ 0x05 ∷ 0x10 ∷ 0x00 ∷ 0x00 ∷ 0x00 ∷ []
+
+-- LOADIWKEY xmm1, xmm2
+abbrev pub loadIwKey : List ℕ
+loadIwKey = 0xF3 ∷ 0x0F ∷ 0x38 ∷ 0xDC ∷ 0xCA ∷ []
+
+-- ENCODEKEY128 ecx, eax; ENCODEKEY256 ecx, eax
+abbrev pub encodeKey128 : List ℕ
+encodeKey128 = 0xF3 ∷ 0x0F ∷ 0x38 ∷ 0xFA ∷ 0xC8 ∷ []
+
+abbrev pub encodeKey256 : List ℕ
+encodeKey256 = 0xF3 ∷ 0x0F ∷ 0x38 ∷ 0xFB ∷ 0xC8 ∷ []
+
+-- ---- the examples
+
+-- "K10's load with EAX 3 and 48 random bytes", and the IWKey that it makes: XMM0 to XMM2 are zero
+abbrev pub randomLoad : StepCall
+randomLoad = onProcessor 0 (rax 3) 0 (replicate 16 0x5A ++ replicate 16 0x3C ++ replicate 16 0xC3) loadIwKey
+
+abbrev pub randomKey : IwKey
+randomKey =
+    record { integrity = replicate 16 0xC3; encryption = replicate 16 0x5A ++ replicate 16 0x3C; source = 1; «no_backup» = 1 }
+
+abbrev pub examples : List Example
+examples =
+    -- K1 F3 0F 38 DC 00, RAX 0: memory 48 loads; 47 gives 14.
+    gives (on (rax 0) 48 encrypt) 0
+    ∷ gives (on (rax 0) 47 encrypt) 14
+    -- K2 RAX 0x7FFFFFFFFFD0 gives 14; 0x7FFFFFFFFFD1 gives 12.
+    ∷ gives (on (rax 0x7FFFFFFFFFD0) 48 encrypt) 14
+    ∷ gives (on (rax 0x7FFFFFFFFFD1) 48 encrypt) 12
+    -- K3 the latter in RSP (F3 0F 38 DC 04 24) gives 13.
+    ∷ gives (on (rsp 0x7FFFFFFFFFD1) 48 (0xF3 ∷ 0x0F ∷ 0x38 ∷ 0xDC ∷ 0x04 ∷ 0x24 ∷ [])) 13
+    -- K4 F3 0F 38 D8 20 gives 8; D8 18 is wide dec 256.
+    ∷ gives (on cpu 64 (0xF3 ∷ 0x0F ∷ 0x38 ∷ 0xD8 ∷ 0x20 ∷ [])) 8
+    ∷ shows (on cpu 64 (0xF3 ∷ 0x0F ∷ 0x38 ∷ 0xD8 ∷ 0x18 ∷ [])) (uses Decrypt Aes256 (0 ∷ 1 ∷ 2 ∷ 3 ∷ 4 ∷ 5 ∷ 6 ∷ 7 ∷ []) 0)
+    -- K5 F3 0F 38 DD C0 gives 8.
+    ∷ gives (on cpu 48 (0xF3 ∷ 0x0F ∷ 0x38 ∷ 0xDD ∷ 0xC0 ∷ [])) 8
+    -- K6 F3 44 0F 38 DE 05 10 00 00 00, RIP 0: XMM8, address 26. The last of 64 bytes is at 89.
+    ∷ shows (on (rip 0) 90 ripRelative) (uses Encrypt Aes256 (8 ∷ []) 26)
+    ∷ gives (on (rip 0) 89 ripRelative) 14
+    -- K7 empty string gives 9.
+    ∷ gives (on cpu 0 []) 9
+    -- K8 ENCODEKEY128 source 7: AAD 07, then 15 zeros; 8 gives 12.
+    ∷ shows (on (rax 7) 0 encodeKey128) (aadIs (0x07 ∷ replicate 15 0))
+    ∷ gives (on (rax 8) 0 encodeKey128) 12
+    -- K9 ENCODEKEY256 source 1: AAD 01 00 00 01, then 12 zeros.
+    ∷ shows (on (rax 1) 0 encodeKey256) (aadIs (0x01 ∷ 0x00 ∷ 0x00 ∷ 0x01 ∷ replicate 12 0))
+    -- K10 EAX 4 gives 12; 3 means random with NoBackup.
+    ∷ gives (on (rax 4) 0 loadIwKey) 12
+    ∷ shows randomLoad (keyIs randomKey)
+    -- K11 after K10's load with EAX 3 and 48 random bytes an encode's destination is 3.
+    ∷ after allFeatures (step randomLoad ∷ []) (on cpu 0 encodeKey128) 0 (registerIs 1 3)
+    -- K12 processor 15 of 16 exists; 16 gives 3.
+    ∷ after sixteen [] (onProcessor 15 cpu 48 [] encrypt) 0 nothing
+    ∷ after sixteen [] (onProcessor 16 cpu 48 [] encrypt) 3 nothing
+    -- beside the twelve: refusal 10, "firmware bit off (not for LOADIWKEY ..)"; features 61 are all but this bit
+    ∷ after noFirmware [] (on cpu 0 loadIwKey) 0 nothing
+    ∷ after noFirmware [] (on cpu 0 encodeKey128) 10 nothing
+    ∷ []
