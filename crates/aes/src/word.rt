@@ -76,14 +76,14 @@ pub fn sub_diagonal(t: &[u8; 256], a: u32, b: u32, c: u32, d: u32) -> u32
 }
 
 // The word that stands at a place of a slice.
-fn word_at(s: &[u8], at: usize) -> u32
+pub fn word_at(s: &[u8], at: usize) -> u32
     requires { ⌜ at + 4 ≤ length (now s) ⌝ }
     ensures { λ r. ⌜ leBytes 4 r ≡ take 4 (drop at (now (s .entry))) ⌝ }
 {
     pack(s[at + 0], s[at + 1], s[at + 2], s[at + 3])
 }
 
-fn put_word(s: &mut [u8], at: usize, x: u32)
+pub fn put_word(s: &mut [u8], at: usize, x: u32)
     requires { ⌜ at + 4 ≤ length (now s) ⌝ }
     ensures { λ _. ⌜ now (s .exit) ≡ sets (now (s .entry)) at (leBytes 4 x) ⌝ }
 {

@@ -13,36 +13,32 @@ use Rattle.bits.specs.Words.{leBytes, leValue}
 use Rattle.bits.proofs.Choice.{cond-off, and-left, and-right, T-true}
 use Rattle.bits.proofs.Words.{le-length, value-le}
 use Rattle.model.specs.Numbers.{part, clearBit}
-use Rattle.model.specs.Cpu.{xmmAt, rflagsAt, ripAt, cpuSize, xmm, rflags, zf, withXmm, withRip, flags, withZf, mapXmm}
+use Rattle.model.specs.Cpu.{xmmAt, rflagsAt, ripAt, cpuSize, xmm, rflags, zf, withXmm, withRip, sixCleared, flags, withZf, mapXmm}
 use Rattle.model.specs.Demand3.{member}
 use Rattle.model.proofs.Parts.{part-before, part-behind, part-filled}
 
 -- ---- ZF
 
--- bit 6 of the flags
-flags-zf : (z x : ℕ) → z < 2 → flags z x / 2 ^ 6 % 2 ≡ z
-flags-zf z x h =
+-- bit 6 is 0 where the six are cleared
+pub six-cleared : (x : ℕ) → sixCleared x / 2 ^ 6 % 2 ≡ 0
+six-cleared x =
     let a = clearBit 6 (clearBit 7 (clearBit 11 x)) in
     let b = clearBit 4 a in
     let c = clearBit 2 b in
-    let cleared : a / 2 ^ 6 % 2 ≡ 0 = six (clearBit 7 (clearBit 11 x)) in
-    let p : b / 2 ^ 6 ≡ a / 2 ^ 6 = four a in
-    let q : c / 2 ^ 6 ≡ b / 2 ^ 6 = two b in
-    let r : clearBit 0 c / 2 ^ 6 ≡ c / 2 ^ 6 = zeroth c in
-    joined (clearBit 0 c) (ap (λ (n : ℕ). n % 2) (r ∙ q ∙ p) ∙ cleared)
+    ap (λ (n : ℕ). n % 2) (zeroth c ∙ two b ∙ four a) ∙ six (clearBit 7 (clearBit 11 x))
   where
     six : (x : ℕ) → clearBit 6 x / 2 ^ 6 % 2 ≡ 0
     six x = omega arith
-
     four : (x : ℕ) → clearBit 4 x / 2 ^ 6 ≡ x / 2 ^ 6
     four x = omega arith
-
     two : (x : ℕ) → clearBit 2 x / 2 ^ 6 ≡ x / 2 ^ 6
     two x = omega arith
-
     zeroth : (x : ℕ) → clearBit 0 x / 2 ^ 6 ≡ x / 2 ^ 6
     zeroth x = omega arith
 
+flags-zf : (z x : ℕ) → z < 2 → flags z x / 2 ^ 6 % 2 ≡ z
+flags-zf z x h = joined (sixCleared x) (six-cleared x)
+  where
     joined : (w : ℕ) → w / 2 ^ 6 % 2 ≡ 0 → (w + z * 2 ^ 6) / 2 ^ 6 % 2 ≡ z
     joined w e = omega arith
 

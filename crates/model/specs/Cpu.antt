@@ -101,8 +101,11 @@ abbrev pub withRip : ℕ → List ℕ → List ℕ
 withRip x cpu = sets cpu ripAt (leBytes 8 x)
 
 -- "CF bit 0, PF 2, AF 4, ZF 6, SF 7, OF 11": ZF as told, the other five 0, all other bits of RFLAGS kept
+abbrev pub sixCleared : ℕ → ℕ
+sixCleared x = clearBit 0 (clearBit 2 (clearBit 4 (clearBit 6 (clearBit 7 (clearBit 11 x)))))
+
 abbrev pub flags : ℕ → ℕ → ℕ
-flags z x = clearBit 0 (clearBit 2 (clearBit 4 (clearBit 6 (clearBit 7 (clearBit 11 x))))) + z * 2 ^ 6
+flags z x = sixCleared x + z * 2 ^ 6
 
 abbrev pub withZf : ℕ → List ℕ → List ℕ
 withZf z cpu = sets cpu rflagsAt (leBytes 8 (flags z (rflags cpu)))

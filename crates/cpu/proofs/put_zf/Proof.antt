@@ -1,0 +1,36 @@
+use mathlib.Core.Path.{_∙_, ap}
+use Prim.Native.Nat.{ℕ}
+use lib.Seq.{sets}
+use Rattle.bits.specs.Words.{leBytes}
+use Rattle.model.specs.Cpu as model
+use borrow.Author.Needs.{needs}
+use Rattle.cpu.proofs.put_zf.Statement.{statement}
+use Rattle.cpu.proofs.put_zf.Tie as tie
+use Rattle.cpu.proofs.put_zf.Reads as reads
+use Rattle.cpu.proofs.put_zf.Lts as lts
+use Rattle.cpu.proofs.flags.Reads as flags-reads
+use Rattle.cpu.proofs.put_quad.Reads as put-quad-reads
+use Rattle.cpu.proofs.quad_at.Reads as quad-at-reads
+
+quad-at-requires : tie.Need-quad-at-requires
+quad-at-requires c κs = search needs
+
+flags-requires : tie.Need-flags-requires
+flags-requires c κs = search needs
+
+put-quad-requires : tie.Need-put-quad-requires
+put-quad-requires c κs = search needs
+
+same-length : tie.Need-same-length
+same-length c = search needs
+
+returns : tie.Need-returns
+returns c =
+    let st = c .before .before .before .before .before .before .before .before in
+    c .before .before .put-quad .ensures
+    ∙ ap (λ (v : ℕ). sets (st .args .cpu .now) model.rflagsAt (leBytes 8 v))
+    (c .before .before .before .flags .ensures ∙ ap (model.flags (st .args .z)) (c .before .before .before .before .before .quad-at .ensures))
+
+pub put-zf-spec : {M : Type 1} → statement M
+put-zf-spec =
+    tie.close (tie.spec quad-at-requires flags-requires put-quad-requires same-length returns)

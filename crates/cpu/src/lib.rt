@@ -1,0 +1,152 @@
+// The CPU record: what stands in its 408 bytes, read and written in place. Whoever lends a record has seen to its length (refusal 4).
+ghost use mathlib.Core.Path.{_≡_};
+ghost use Prim.Native.Nat.{ℕ, _+_, _<_, _≤_};
+ghost use lib.ListN.{length, getD};
+ghost use lib.Seq.{sets};
+ghost use Rattle.bits.specs.Words.{leBytes, leValue};
+ghost use Rattle.aes.specs.Form.{bytesOf};
+ghost use Rattle.model.specs.Numbers.{clearBit, part};
+ghost use Rattle.model.specs.Cpu as model;
+use aes::Block;
+use aes::word::block_at;
+use aes::word::put_block;
+use aes::word::put_word;
+use aes::word::word_at;
+
+// ---- numbers of eight bytes
+
+fn quad_at(s: &[u8], at: usize) -> u64
+    requires { ⌜ at + 8 ≤ length (now s) ⌝ }
+    ensures { λ r. ⌜ r ≡ leValue (part 8 at (now (s .entry))) ⌝ }
+{
+    let low = word_at(s, at) as u64;
+    let high = word_at(s, at + 4) as u64;
+    low + (high << 32)
+}
+
+fn put_quad(s: &mut [u8], at: usize, x: u64)
+    requires { ⌜ at + 8 ≤ length (now s) ⌝ }
+    ensures { λ _. ⌜ now (s .exit) ≡ sets (now (s .entry)) at (leBytes 8 x) ⌝ }
+{
+    put_word(s, at, (x % 0x1_0000_0000) as u32);
+    put_word(s, at + 4, (x >> 32) as u32);
+}
+
+// ---- XMM registers
+
+pub fn xmm(cpu: &[u8], n: u8) -> Block
+    requires { ⌜ length (now cpu) ≡ model.cpuSize ⌝ }
+    ensures { λ r. ⌜ bytesOf r ≡ model.xmm n (now (cpu .entry)) ⌝ }
+{
+    block_at(cpu, 16 * (n % 16) as usize)
+}
+
+pub fn put_xmm(cpu: &mut [u8], n: u8, b: Block)
+    requires { ⌜ length (now cpu) ≡ model.cpuSize ⌝ }
+    ensures { λ _. ⌜ now (cpu .exit) ≡ model.withXmm n (bytesOf b) (now (cpu .entry)) ⌝ }
+{
+    put_block(cpu, 16 * (n % 16) as usize, b);
+}
+
+// ---- general registers, RIP and RFLAGS
+
+pub fn register(cpu: &[u8], n: u8) -> u64
+    requires { ⌜ length (now cpu) ≡ model.cpuSize ⌝ }
+    ensures { λ r. ⌜ r ≡ model.register n (now (cpu .entry)) ⌝ }
+{
+    quad_at(cpu, 256 + 8 * (n % 16) as usize)
+}
+
+pub fn put_register(cpu: &mut [u8], n: u8, x: u64)
+    requires { ⌜ length (now cpu) ≡ model.cpuSize ⌝ }
+    ensures { λ _. ⌜ now (cpu .exit) ≡ model.withRegister n x (now (cpu .entry)) ⌝ }
+{
+    put_quad(cpu, 256 + 8 * (n % 16) as usize, x);
+}
+
+// All sixteen, as the effective address wants them.
+pub fn registers(cpu: &[u8]) -> [u64; 16]
+    requires { ⌜ length (now cpu) ≡ model.cpuSize ⌝ }
+    ensures { λ r. ⌜ ((n : ℕ) → n < 16 → getD r n 0 ≡ model.register n (now (cpu .entry))) ⌝ }
+{
+    let mut r = [0u64; 16];
+    for i in 0..16usize {
+        let x = quad_at(cpu, 256 + 8 * i);
+        r[i] = x;
+    }
+    r
+}
+
+pub fn rip(cpu: &[u8]) -> u64
+    requires { ⌜ length (now cpu) ≡ model.cpuSize ⌝ }
+    ensures { λ r. ⌜ r ≡ model.rip (now (cpu .entry)) ⌝ }
+{
+    quad_at(cpu, 384)
+}
+
+pub fn put_rip(cpu: &mut [u8], x: u64)
+    requires { ⌜ length (now cpu) ≡ model.cpuSize ⌝ }
+    ensures { λ _. ⌜ now (cpu .exit) ≡ model.withRip x (now (cpu .entry)) ⌝ }
+{
+    put_quad(cpu, 384, x);
+}
+
+// OF, SF and ZF cleared.
+fn clear_high(x: u64) -> u64
+    ensures { λ r. ⌜ r ≡ clearBit 6 (clearBit 7 (clearBit 11 x)) ⌝ }
+{
+    let a = x - x / 2048 % 2 * 2048;
+    let b = a - a / 128 % 2 * 128;
+    b - b / 64 % 2 * 64
+}
+
+// AF, PF and CF cleared.
+fn clear_low(x: u64) -> u64
+    ensures { λ r. ⌜ r ≡ clearBit 0 (clearBit 2 (clearBit 4 x)) ⌝ }
+{
+    let a = x - x / 16 % 2 * 16;
+    let b = a - a / 4 % 2 * 4;
+    b - b % 2
+}
+
+// ZF as told, the other five flags 0.
+fn flags(z: u8, x: u64) -> u64
+    requires { ⌜ z < 2 ⌝ }
+    ensures { λ r. ⌜ r ≡ model.flags z x ⌝ }
+{
+    clear_low(clear_high(x)) + (z as u64) * 64
+}
+
+pub fn put_zf(cpu: &mut [u8], z: u8)
+    requires { ⌜ length (now cpu) ≡ model.cpuSize ⌝ }
+    requires { ⌜ z < 2 ⌝ }
+    ensures { λ _. ⌜ now (cpu .exit) ≡ model.withZf z (now (cpu .entry)) ⌝ }
+{
+    let x = quad_at(cpu, 392);
+    put_quad(cpu, 392, flags(z, x));
+}
+
+// ---- CPL, control bits and the zero fields
+
+pub fn cpl(cpu: &[u8]) -> u8
+    requires { ⌜ length (now cpu) ≡ model.cpuSize ⌝ }
+    ensures { λ r. ⌜ r ≡ model.cpl (now (cpu .entry)) ⌝ }
+{
+    cpu[400]
+}
+
+pub fn control(cpu: &[u8]) -> u8
+    requires { ⌜ length (now cpu) ≡ model.cpuSize ⌝ }
+    ensures { λ r. ⌜ r ≡ model.control (now (cpu .entry)) ⌝ }
+{
+    cpu[401]
+}
+
+pub fn zero_field_set(cpu: &[u8]) -> bool
+    requires { ⌜ length (now cpu) ≡ model.cpuSize ⌝ }
+    ensures { λ r. ⌜ r ≡ model.zeroFieldSet (now (cpu .entry)) ⌝ }
+{
+    (cpu[401] >= 16)
+        | !((cpu[402] == 0)
+            & ((cpu[403] == 0) & ((cpu[404] == 0) & ((cpu[405] == 0) & ((cpu[406] == 0) & (cpu[407] == 0))))))
+}
