@@ -7,11 +7,13 @@ ghost use Rattle.bits.specs.Words.{leBytes, leValue};
 ghost use Rattle.aes.specs.Form.{bytesOf};
 ghost use Rattle.model.specs.Numbers.{clearBit, part};
 ghost use Rattle.model.specs.Cpu as model;
+ghost use Rattle.model.specs.Forms.{registerOf};
 use aes::Block;
 use aes::word::block_at;
 use aes::word::put_block;
 use aes::word::put_word;
 use aes::word::word_at;
+use isa::Operand;
 
 // ---- numbers of eight bytes
 
@@ -62,6 +64,16 @@ pub fn put_register(cpu: &mut [u8], n: u8, x: u64)
     ensures { λ _. ⌜ now (cpu .exit) ≡ model.withRegister n x (now (cpu .entry)) ⌝ }
 {
     put_quad(cpu, 256 + 8 * (n % 16) as usize, x);
+}
+
+// The register that an operand names.
+pub fn register_of(o: Operand) -> u8
+    ensures { λ r. ⌜ r ≡ registerOf o ⌝ }
+{
+    match o {
+        Operand::Register(n) => n,
+        Operand::Memory(_) => 0,
+    }
 }
 
 // All sixteen, as the effective address wants them.

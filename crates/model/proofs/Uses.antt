@@ -116,7 +116,7 @@ module _ (e : EncodeKey) (k : IwKey) (cpu : List ℕ) (l : length cpu ≡ cpuSiz
       let few : 4 * nk (e .size) ≤ 32 = key-few (e .size) in
       part-length cpu (4 * nk (e .size)) 0 (omega arith) ∙ key-blocks (e .size)
 
-  handle-length : length (encodedHandle e k cpu) ≡ handleLength (e .size)
+  pub handle-length : length (encodedHandle e k cpu) ≡ handleLength (e .size)
   handle-length =
       wrap-length (k .integrity) (k .encryption) (aad (typeOf (e .size)) source) (keyFrom (e .size) cpu) (keyBlocks (e .size))
       (aad-length (typeOf (e .size)) source) key-length

@@ -6,10 +6,6 @@ use Rattle.cpu.proofs.Words.{zf-fits}
 use borrow.Author.Needs.{needs}
 use Rattle.cpu.proofs.flags.Statement.{statement}
 use Rattle.cpu.proofs.flags.Tie as tie
-use Rattle.cpu.proofs.flags.Reads as reads
-use Rattle.cpu.proofs.flags.Lts as lts
-use Rattle.cpu.proofs.clear_high.Reads as clear-high-reads
-use Rattle.cpu.proofs.clear_low.Reads as clear-low-reads
 
 clear-high-requires : tie.Need-clear-high-requires
 clear-high-requires c κs = search needs

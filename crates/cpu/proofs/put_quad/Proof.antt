@@ -7,9 +7,6 @@ use Rattle.cpu.proofs.Words.{quad-stored}
 use borrow.Author.Needs.{needs}
 use Rattle.cpu.proofs.put_quad.Statement.{statement}
 use Rattle.cpu.proofs.put_quad.Tie as tie
-use Rattle.cpu.proofs.put_quad.Reads as reads
-use Rattle.cpu.proofs.put_quad.Lts as lts
-use Rattle.aes.proofs.word.put_word.Reads as put-word-reads
 
 cast-put-word : tie.Need-cast-put-word
 cast-put-word c = search needs

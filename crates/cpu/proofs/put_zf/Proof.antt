@@ -6,11 +6,6 @@ use Rattle.model.specs.Cpu as model
 use borrow.Author.Needs.{needs}
 use Rattle.cpu.proofs.put_zf.Statement.{statement}
 use Rattle.cpu.proofs.put_zf.Tie as tie
-use Rattle.cpu.proofs.put_zf.Reads as reads
-use Rattle.cpu.proofs.put_zf.Lts as lts
-use Rattle.cpu.proofs.flags.Reads as flags-reads
-use Rattle.cpu.proofs.put_quad.Reads as put-quad-reads
-use Rattle.cpu.proofs.quad_at.Reads as quad-at-reads
 
 quad-at-requires : tie.Need-quad-at-requires
 quad-at-requires c κs = search needs

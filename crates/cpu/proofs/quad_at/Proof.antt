@@ -2,9 +2,6 @@ use Rattle.cpu.proofs.Words.{quad-value}
 use borrow.Author.Needs.{needs}
 use Rattle.cpu.proofs.quad_at.Statement.{statement}
 use Rattle.cpu.proofs.quad_at.Tie as tie
-use Rattle.cpu.proofs.quad_at.Reads as reads
-use Rattle.cpu.proofs.quad_at.Lts as lts
-use Rattle.aes.proofs.word.word_at.Reads as word-at-reads
 
 word-at-requires : tie.Need-word-at-requires
 word-at-requires c κs = search needs

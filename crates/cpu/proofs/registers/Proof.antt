@@ -12,9 +12,6 @@ use Rattle.model.specs.Numbers.{part}
 use Rattle.model.specs.Cpu as model
 use Rattle.cpu.proofs.registers.Statement.{statement}
 use Rattle.cpu.proofs.registers.Tie as tie
-use Rattle.cpu.proofs.registers.Reads as reads
-use Rattle.cpu.proofs.registers.Lts as lts
-use Rattle.cpu.proofs.quad_at.Reads as quad-at-reads
 
 abbrev Inv-loop : tie.InvT-loop
 Inv-loop cpu r₀ i₀ r i = (i ≤ 16) × (length r ≡ 16) × ((n : ℕ) → n < i → getD r n 0 ≡ model.register n cpu)

@@ -7,8 +7,6 @@ use Rattle.cpu.proofs.Words.{six-zeros}
 use borrow.Author.Needs.{needs}
 use Rattle.cpu.proofs.zero_field_set.Statement.{statement}
 use Rattle.cpu.proofs.zero_field_set.Tie as tie
-use Rattle.cpu.proofs.zero_field_set.Reads as reads
-use Rattle.cpu.proofs.zero_field_set.Lts as lts
 
 shared-slice-read-result : tie.Need-shared-slice-read-result
 shared-slice-read-result c = search needs
