@@ -184,7 +184,7 @@ aes-length Decrypt size key b = inv-cipher-length (keyExpansion (nk size) key) (
 
 module _ (f : Form) (fits : T (registers (f .blocks))) (key cpu : List ℕ) (l : length cpu ≡ cpuSize) (bytes : ℕ) where
   abbrev after : Bool → List ℕ
-  after t = advanced bytes (ciphered f (cond t (some key) none) cpu)
+  after t = advanced bytes (ciphered (f .direction) (f .size) (f .blocks) (cond t (some key) none) cpu)
 
   pub zf-after : (t : Bool) → zf (after t) ≡ cond t 0 1
   zf-after true =
@@ -216,10 +216,10 @@ module _ (e : EncodeKey) (k : IwKey) (before : List ℕ) (l : length before ≡ 
   abbrev allowed : Bool
   allowed = permits (e .size) (register (registerOf (e .source)) before) (f .size) (f .direction) (cpl cpu)
 
-  ciphered-as : advanced bytes (used memory bytes f k cpu) ≡ advanced bytes (ciphered f (cond allowed (some (keyFrom (e .size) before)) none) cpu)
+  ciphered-as : advanced bytes (used memory bytes f k cpu) ≡ advanced bytes (ciphered (f .direction) (f .size) (f .blocks) (cond allowed (some (keyFrom (e .size) before)) none) cpu)
   unfolding used
   ciphered-as =
-      ap (λ (o : Option (List ℕ)). advanced bytes (ciphered f o cpu))
+      ap (λ (o : Option (List ℕ)). advanced bytes (ciphered (f .direction) (f .size) (f .blocks) o cpu))
       (opened e k before l (f .size) (handleRead memory cpu bytes f) n same (f .direction) (cpl cpu))
 
   pub use-zf : zf (advanced bytes (used memory bytes f k cpu)) ≡ cond allowed 0 1

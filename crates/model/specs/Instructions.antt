@@ -80,12 +80,13 @@ aes Encrypt size key b = encrypt (nk size) key b
 aes Decrypt size key b = decrypt (nk size) key b
 
 -- "Only where unwrapping hands out a key is a block touched. Then ZF is 0, otherwise ZF is 1 and XMM stays; the other five flags are 0."
-abbrev pub ciphered : Form → Option (List ℕ) → List ℕ → List ℕ
-ciphered f none cpu = withZf 1 cpu
-ciphered f (some key) cpu = withZf 0 (mapXmm (aes (f .direction) (f .size) key) (f .blocks) cpu)
+abbrev pub ciphered : Direction → KeySize → List ℕ → Option (List ℕ) → List ℕ → List ℕ
+ciphered direction size blocks none cpu = withZf 1 cpu
+ciphered direction size blocks (some key) cpu = withZf 0 (mapXmm (aes direction size key) blocks cpu)
 
 unfoldable pub used : List ℕ → ℕ → Form → IwKey → List ℕ → List ℕ
-used memory bytes f k cpu = ciphered f (openedFor k (cpl cpu) (f .size) (f .direction) (handleRead memory cpu bytes f)) cpu
+used memory bytes f k cpu =
+    ciphered (f .direction) (f .size) (f .blocks) (openedFor k (cpl cpu) (f .size) (f .direction) (handleRead memory cpu bytes f)) cpu
 
 -- ---- LOADIWKEY (3.12)
 
