@@ -96,4 +96,6 @@ all-hold =
     (refl, tt) also (refl, tt) also
     -- beside the twelve
     (refl, tt) also (refl, tt) also
+    -- LOCK, TS, an encode at CPL 3, the halves of the encryption key
+    (refl, tt) also (refl, tt) also (refl, tt) also (refl, refl) also
     tt
