@@ -11,3 +11,4 @@ pub mod Bytes
 pub mod Shapes
 pub mod Lent
 pub mod Examples
+pub mod Inhabited
