@@ -25,17 +25,18 @@ use Rattle.isa.specs.declared.Operand.{Operand}
 use Rattle.isa.specs.declared.Operand.the-variants as operand
 use Rattle.model.specs.Records.{processorAt}
 use Rattle.model.specs.Cpu.{cpuSize, cplAt, xmm, zf, withXmm}
-use Rattle.model.specs.Calls.{PowerOn, StepCall, Call, step, write, settle, sleep, reset, stepOf, Answer}
+use Rattle.model.specs.Calls.{StepCall, Call, step, reset, stepOf, Answer}
 use Rattle.model.specs.Refusals.{tests, refusal}
 use Rattle.model.specs.Instructions.{encoded, aes, advanced, executed}
 use Rattle.model.specs.Execution.{perform, call, run, powerOn}
 use Rattle.model.specs.History.{viewGiven, nameAt, copiedOut, settledNames, moved, history}
 use Rattle.model.specs.Demand3.{Encode, UseMade, encodeOf, useOf, allOf, Agree, Works, answerAt, ByteStrings, Demand3}
-use Rattle.model.specs.Examples.{rax, on, encrypt, loadIwKey, encodeKey128, halvesCpu}
+use Rattle.model.specs.Examples.{rax, on, encrypt, encodeKey128}
 use Rattle.model.specs.declared.IwKey.{IwKey}
 use Rattle.model.specs.declared.Machine.{Machine}
 use Rattle.model.proofs.Frames.{by-number}
 use Rattle.model.proofs.Demand3.{answer-at, demand-3}
+use Rattle.model.proofs.Computed.{two, load, out, into, settling, sleeping}
 use Rattle.model.proofs.Examples.{spelled, spelled-eq}
 
 -- ---- lists that end in a use of a handle encoded in them
@@ -50,10 +51,6 @@ record Case : Type 0 where
   string : List ℕ
   size : KeySize
   tail : List ℕ
-
--- two processors, all features
-abbrev two : PowerOn
-two = record { count = 2; features = 63 }
 
 abbrev machine : Machine
 machine = powerOn two .machine
@@ -208,15 +205,9 @@ module _ (c : Case) (m : Meets c) where
 
 -- ---- the six
 
--- LOADIWKEY on processor 0, and the backup registers
-abbrev load : Call
-load = step (on halvesCpu 0 loadIwKey)
-
-abbrev copyOutOn : ℕ → Call
-copyOutOn p = write (record { processor = p; cpl = 0; address = 0xD91; value = 1 })
-
-abbrev copyInOn : ℕ → Call
-copyInOn p = write (record { processor = p; cpl = 0; address = 0xD92; value = 1 })
+-- the calls before: a load on processor 0
+abbrev loaded : List Call
+loaded = load 0 0 [] 0x11 ∷ []
 
 -- AESENC256KL xmm0, [rax]
 abbrev encrypt256 : List ℕ
@@ -225,22 +216,22 @@ encrypt256 = 0xF3 ∷ 0x0F ∷ 0x38 ∷ 0xDE ∷ 0x00 ∷ []
 -- after a load; AESENC128KL over the handle at CPL 0
 abbrev plainly : ℕ → List Call → ℕ → Case
 plainly source between processor =
-    record { before = load ∷ []; source = source; between = between; processor = processor; cpl = 0; string = encrypt; size = Aes128; tail = [] }
+    record { before = loaded; source = source; between = between; processor = processor; cpl = 0; string = encrypt; size = Aes128; tail = [] }
 
 abbrev otherProcessor : Case
-otherProcessor = plainly 0 (copyOutOn 0 ∷ copyInOn 1 ∷ []) 1
+otherProcessor = plainly 0 (out 0 ∷ into 1 ∷ []) 1
 
 abbrev oldStore : Case
-oldStore = plainly 0 (copyOutOn 0 ∷ settle (record { code = 0 }) ∷ sleep (record { code = 0 }) ∷ copyInOn 0 ∷ []) 0
+oldStore = plainly 0 (out 0 ∷ settling 0 ∷ sleeping 0 ∷ into 0 ∷ []) 0
 
 abbrev newStore : Case
-newStore = plainly 0 (copyOutOn 0 ∷ sleep (record { code = 1 }) ∷ copyInOn 0 ∷ []) 0
+newStore = plainly 0 (out 0 ∷ sleeping 1 ∷ into 0 ∷ []) 0
 
 abbrev otherSize : Case
-otherSize = record { before = load ∷ []; source = 0; between = []; processor = 0; cpl = 0; string = encrypt256; size = Aes256; tail = replicate 16 0 }
+otherSize = record { before = loaded; source = 0; between = []; processor = 0; cpl = 0; string = encrypt256; size = Aes256; tail = replicate 16 0 }
 
 abbrev unprivileged : Case
-unprivileged = record { before = load ∷ []; source = 1; between = []; processor = 0; cpl = 3; string = encrypt; size = Aes128; tail = [] }
+unprivileged = record { before = loaded; source = 1; between = []; processor = 0; cpl = 3; string = encrypt; size = Aes128; tail = [] }
 
 abbrev otherDirection : Case
 otherDirection = plainly 2 [] 0

@@ -12,4 +12,5 @@ pub mod Bytes
 pub mod Shapes
 pub mod Lent
 pub mod Examples
+pub mod Computed
 pub mod Inhabited
