@@ -135,12 +135,12 @@ read-length v s a what lock bytes f r q =
 
 -- ---- a use of an encoded handle
 
-module _ (p : PowerOn) (m : Machine) (first : Holds p [] m (atFirst p)) where
-  -- answer by answer
-  answer-at : (n : Machine) (xs : List Call) (c : Call) (ys : List Call) → answerAt (run n (xs ++ c ∷ ys)) (length xs) ≡ call (run n xs .machine) c .answer
-  answer-at n [] c ys = refl
-  answer-at n (x ∷ xs) c ys = answer-at (call n x .machine) xs c ys
+-- answer by answer
+pub answer-at : (m : Machine) (xs : List Call) (c : Call) (ys : List Call) → answerAt (run m (xs ++ c ∷ ys)) (length xs) ≡ call (run m xs .machine) c .answer
+answer-at m [] c ys = refl
+answer-at m (x ∷ xs) c ys = answer-at (call m x .machine) xs c ys
 
+module _ (p : PowerOn) (m : Machine) (first : Holds p [] m (atFirst p)) where
   abbrev machineAfter : List Call → Machine
   machineAfter xs = run m xs .machine
 
@@ -242,7 +242,7 @@ strings-at : (xs : List Call) (u : Call) (zs : List Call) → ByteStrings (xs ++
 strings-at [] u zs b = b .0
 strings-at (x ∷ xs) u zs b = strings-at xs u zs (b .1)
 
-never : (p : PowerOn) (calls : List Call) → allOf (λ n. not (eqb n 1)) (refusals p calls) ≡ true
+pub never : (p : PowerOn) (calls : List Call) → allOf (λ n. not (eqb n 1)) (refusals p calls) ≡ true
 never p calls = T-true (allOf (λ n. not (eqb n 1)) (refusals p calls)) (go calls)
   where
     go : (l : List Call) → T (allOf (λ n. not (eqb n 1)) (refusals p l))
@@ -250,11 +250,15 @@ never p calls = T-true (allOf (λ n. not (eqb n 1)) (refusals p calls)) (go call
     go (c ∷ l) =
         and-both (not (eqb (refusal (viewGiven p) c) 1)) (allOf (λ n. not (eqb n 1)) (refusals p l)) (never-1 (viewGiven p) c) (go l)
 
+pub power-on-holds : (p : PowerOn) → powerOn p .answer .number ≡ 0 → Holds p [] (powerOn p .machine) (atFirst p)
+power-on-holds p ok =
+    let valid = power-on-valid p ok in
+    subst (λ (x : Machine). Holds p [] x (atFirst p)) (sym (valid .0)) (holds-first p (valid .1))
+
 pub demand-3 : (p : PowerOn) → powerOn p .answer .number ≡ 0 → (calls : List Call) → ByteStrings calls → Demand3 p calls (run (powerOn p .machine) calls)
 demand-3 p ok calls b =
     let m = powerOn p .machine in
-    let fresh-valid = power-on-valid p ok in
-    let first : Holds p [] m (atFirst p) = subst (λ (x : Machine). Holds p [] x (atFirst p)) (sym (fresh-valid .0)) (holds-first p (fresh-valid .1)) in
+    let first = power-on-holds p ok in
     let last = holds p m first calls in
     record {
       numbers = numbers-run p [] calls m (atFirst p) first;
@@ -266,9 +270,9 @@ demand-3 p ok calls b =
           let r = run m calls in
           let again : calls ≡ (xs ++ e ∷ ys) ++ u ∷ zs = split ∙ sym (append-assoc xs (e ∷ ys) (u ∷ zs)) in
           let gave : answerAt r (length xs) ≡ call (run m xs .machine) e .answer =
-          ap (λ (l : List Call). answerAt (run m l) (length xs)) split ∙ answer-at p m first m xs e (ys ++ u ∷ zs) in
+          ap (λ (l : List Call). answerAt (run m l) (length xs)) split ∙ answer-at m xs e (ys ++ u ∷ zs) in
           let gets : answerAt r (length (xs ++ e ∷ ys)) ≡ call (run m (xs ++ e ∷ ys) .machine) u .answer =
-          ap (λ (l : List Call). answerAt (run m l) (length (xs ++ e ∷ ys))) again ∙ answer-at p m first m (xs ++ e ∷ ys) u zs in
+          ap (λ (l : List Call). answerAt (run m l) (length (xs ++ e ∷ ys))) again ∙ answer-at m (xs ++ e ∷ ys) u zs in
           subst (λ (a : Answer). Works encode made (a .cpu)) (sym gets)
           (use-works p m first xs e ys u (strings-at (xs ++ e ∷ ys) u zs (subst ByteStrings again b)) encode qe
           (ap (λ (a : Answer). a .number) (sym gave) ∙ ne) made qu

@@ -25,11 +25,11 @@ use Rattle.model.specs.Examples.{Every, rax, cpu, randomKey, examples}
 -- ---- the examples that encode: what is seen of them does not depend on the tag and the ciphertext
 
 -- a list of n elements, one by one
-abbrev spelled : ℕ → List ℕ → List ℕ
+abbrev pub spelled : ℕ → List ℕ → List ℕ
 spelled zero l = []
 spelled (suc n) l = getD l 0 0 ∷ spelled n (drop 1 l)
 
-spelled-eq : (n : ℕ) (l : List ℕ) → length l ≡ n → l ≡ spelled n l
+pub spelled-eq : (n : ℕ) (l : List ℕ) → length l ≡ n → l ≡ spelled n l
 spelled-eq zero [] h = refl
 spelled-eq zero (x ∷ l) h = absurd (omega arith)
 spelled-eq (suc n) [] h = absurd (omega arith)
@@ -96,4 +96,6 @@ all-hold =
     (refl, tt) also (refl, tt) also
     -- beside the twelve
     (refl, tt) also (refl, tt) also
+    -- LOCK, TS, an encode at CPL 3, the halves of the encryption key
+    (refl, tt) also (refl, tt) also (refl, tt) also (refl, refl) also
     tt

@@ -37,7 +37,7 @@ use Rattle.model.proofs.Validities.{pending-flag, count-few, machine-pa
 -- ---- a name keeps its meaning while the list grows
 
 module _ (past more : List Call) (i : ℕ) (h : i < length past) where
-  call-more : callAt (past ++ more) i ≡ callAt past i
+  pub call-more : callAt (past ++ more) i ≡ callAt past i
   call-more = List·getD-append past more reset i h
 
 refusals-more : (p : PowerOn) (past more : List Call) (i : ℕ) → i < length past → getD (refusals p (past ++ more)) i 0 ≡ getD (refusals p past) i 0
@@ -90,16 +90,16 @@ last-given p past c l a =
 
 -- ---- every name, and what all of them stand for
 
-none-more : (f g : ℕ → Bool) → ((n : ℕ) → T (f n) → T (g n)) → (o : Option ℕ) → T (orNone f o) → T (orNone g o)
+pub none-more : (f g : ℕ → Bool) → ((n : ℕ) → T (f n) → T (g n)) → (o : Option ℕ) → T (orNone f o) → T (orNone g o)
 none-more f g h none t = t
 none-more f g h (some n) t = h n t
 
-record Every (f : ℕ → Bool) (h : History) : Type 0 where
-  names : T (allOf f (h .names))
-  backup : T (orNone f (h .backup))
-  store : T (orNone f (h .store))
+pub record Every (f : ℕ → Bool) (h : History) : Type 0 where
+  pub names : T (allOf f (h .names))
+  pub backup : T (orNone f (h .backup))
+  pub store : T (orNone f (h .store))
 
-every-parts : (f : ℕ → Bool) (h : History) → T (everyName f h) → Every f h
+pub every-parts : (f : ℕ → Bool) (h : History) → T (everyName f h) → Every f h
 every-parts f h t =
     let a = allOf f (h .names) in
     let b = orNone f (h .backup) in
@@ -107,7 +107,7 @@ every-parts f h t =
     let r = and-right a (b && c) t in
     record { names = and-left a (b && c) t; backup = and-left b c r; store = and-right b c r }
 
-every-of : (f : ℕ → Bool) (h : History) → Every f h → T (everyName f h)
+pub every-of : (f : ℕ → Bool) (h : History) → Every f h → T (everyName f h)
 every-of f h e =
     let b = orNone f (h .backup) in
     let c = orNone f (h .store) in

@@ -7,7 +7,10 @@ pub mod Frames
 pub mod Validities
 pub mod Histories
 pub mod Demand3
+pub mod Corollaries
 pub mod Bytes
 pub mod Shapes
 pub mod Lent
 pub mod Examples
+pub mod Computed
+pub mod Inhabited

@@ -202,3 +202,9 @@ pub record Demand3 (p : PowerOn) (calls : List Call) (r : Run) : Type 0 where
       → nameAt (encode .processor) (history p xs) ≡ nameAt (made .processor) (history p (xs ++ e ∷ ys))
       → Agree (made .bytesRead) (take (handleLength (encode .size)) (answerAt r (length xs) .cpu))
       → Works encode made (answerAt r (length (xs ++ e ∷ ys)) .cpu)
+
+-- ---- corollaries
+
+-- no processor, backup or store has the name
+abbrev pub nowhere : ℕ → History → Bool
+nowhere n h = everyName (λ k. not (eqb k n)) h

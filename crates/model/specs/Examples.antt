@@ -14,7 +14,7 @@ use Rattle.isa.specs.Decode.{decode}
 use Rattle.isa.specs.declared.Decoded.{Decoded}
 use Rattle.isa.specs.declared.Decoded.the-variants as decoded
 use Rattle.model.specs.Records.{processorAt}
-use Rattle.model.specs.Cpu.{cpuSize, controlAt, register, withRegister, withRip}
+use Rattle.model.specs.Cpu.{cpuSize, cplAt, controlAt, register, withXmm, withRegister, withRip}
 use Rattle.model.specs.Forms.{Form, formOf, handleAddress}
 use Rattle.model.specs.Calls.{PowerOn, StepCall, Call, step, Outcome}
 use Rattle.model.specs.Execution.{powerOn, call, run}
@@ -147,6 +147,13 @@ abbrev pub randomKey : IwKey
 randomKey =
     record { integrity = replicate 16 0xC3; encryption = replicate 16 0x5A ++ replicate 16 0x3C; source = 1; «no_backup» = 1 }
 
+-- SRC1 holds sixteen 1s and SRC2 sixteen 2s: the CPU record before a load, and the IWKey that it makes
+abbrev pub halvesCpu : List ℕ
+halvesCpu = withXmm 1 (replicate 16 1) (withXmm 2 (replicate 16 2) cpu)
+
+abbrev pub halvesKey : IwKey
+halvesKey = record { integrity = replicate 16 0; encryption = replicate 16 2 ++ replicate 16 1; source = 0; «no_backup» = 0 }
+
 abbrev pub examples : List Example
 examples =
     -- K1 F3 0F 38 DC 00, RAX 0: memory 48 loads; 47 gives 14.
@@ -183,4 +190,11 @@ examples =
     -- beside the twelve: refusal 10, "firmware bit off (not for LOADIWKEY ..)"; features 61 are all but this bit
     ∷ after noFirmware [] (on cpu 0 loadIwKey) 0 nothing
     ∷ after noFirmware [] (on cpu 0 encodeKey128) 10 nothing
+    -- "#UD: LOCK"; "#NM: TS on", bit 3 of the control bits
+    ∷ gives (on (rax 0) 48 (0xF0 ∷ encrypt)) 10
+    ∷ gives (on (sets (rax 0) controlAt (0x0B ∷ [])) 48 encrypt) 11
+    -- a CPL 0 handle is encoded at CPL 3 too
+    ∷ gives (on (sets (rax 1) cplAt (3 ∷ [])) 0 encodeKey128) 0
+    -- "Encryption key low half SRC2, high half SRC1"
+    ∷ shows (on halvesCpu 0 loadIwKey) (keyIs halvesKey)
     ∷ []
