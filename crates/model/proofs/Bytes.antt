@@ -7,29 +7,7 @@ use native.Mathlib.Omega.{arith}
 use lib.ListN.{length, getD, take, drop, length-append, length-drop, take-append-drop, drop-of-length-le}
 use lib.Seq.{length-take-le, take-at, drop-at, getD-drop, drop-drop, drop-cons}
 use Rattle.model.specs.Records.{processorLimit}
-use Rattle.model.specs.Layout.{
-  keySize,
-  entrySize,
-  slotSize,
-  platformSize,
-  machineSize,
-  keyBytes,
-  entryBytes,
-  entriesBytes,
-  slotBytes,
-  platformBytes,
-  machineBytes,
-  keyAt,
-  entryAt,
-  entriesAt,
-  slotAt,
-  platformAt,
-  machineAt,
-  ShapedKey,
-  ShapedEntries,
-  ShapedPlatform,
-  Shaped,
-}
+use Rattle.model.specs.Layout.{keySize, entrySize, slotSize, platformSize, machineSize, keyBytes, entryBytes, entriesBytes, slotBytes, platformBytes, machineBytes, keyAt, entryAt, entriesAt, slotAt, platformAt, machineAt, ShapedKey, ShapedEntries, ShapedPlatform, Shaped}
 use Rattle.model.specs.declared.IwKey.{IwKey}
 use Rattle.model.specs.declared.Processor.{Processor}
 use Rattle.model.specs.declared.Slot.{Slot}

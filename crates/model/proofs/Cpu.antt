@@ -3,7 +3,7 @@
 use mathlib.Core.Path.{_≡_, _∙_, refl, sym, ap}
 use mathlib.Core.Bool.{Bool, true, false, cond, not, _&&_, _||_}
 use mathlib.Core.List.{List, [], _∷_}
-use Prim.Native.Nat.{ℕ, _+_, _-_, _*_, _^_, _/_, _%_, _≤_, _<_}
+use Prim.Native.Nat.{ℕ, _+_, _*_, _^_, _/_, _%_, _≤_, _<_}
 use native.Mathlib.Omega.{arith}
 use lib.Dec.{T, eqb, ltb, ltb→lt}
 use lib.ListN.{length}
@@ -12,7 +12,7 @@ use borrow.Author.Tests.{eqb-true, eqb-false, ltb-true, ltb-false, not-true}
 use Rattle.bits.specs.Words.{leBytes, leValue}
 use Rattle.bits.proofs.Choice.{cond-off, and-left, and-right, T-true}
 use Rattle.bits.proofs.Words.{le-length, value-le}
-use Rattle.model.specs.Numbers.{part, clearBit}
+use Rattle.model.specs.Numbers.{clearBit}
 use Rattle.model.specs.Cpu.{xmmAt, rflagsAt, ripAt, cpuSize, xmm, rflags, zf, withXmm, withRip, sixCleared, flags, withZf, mapXmm}
 use Rattle.model.specs.Demand3.{member}
 use Rattle.model.proofs.Parts.{part-before, part-behind, part-filled}
@@ -29,10 +29,13 @@ six-cleared x =
   where
     six : (x : ℕ) → clearBit 6 x / 2 ^ 6 % 2 ≡ 0
     six x = omega arith
+
     four : (x : ℕ) → clearBit 4 x / 2 ^ 6 ≡ x / 2 ^ 6
     four x = omega arith
+
     two : (x : ℕ) → clearBit 2 x / 2 ^ 6 ≡ x / 2 ^ 6
     two x = omega arith
+
     zeroth : (x : ℕ) → clearBit 0 x / 2 ^ 6 ≡ x / 2 ^ 6
     zeroth x = omega arith
 

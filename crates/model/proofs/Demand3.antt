@@ -1,16 +1,16 @@
 -- Demand 3 holds: along every list of calls from a power-on that was not refused.
 -- Assumes nothing.
-use mathlib.Core.Path.{_≡_, _∙_, refl, sym, ap, ap₂, subst}
-use mathlib.Core.Bool.{Bool, true, false, cond, not, _&&_}
-use mathlib.Core.List.{List, [], _∷_, _++_, map, append-assoc}
+use mathlib.Core.Path.{_≡_, _∙_, refl, sym, ap, subst}
+use mathlib.Core.Bool.{Bool, true, false, not, _&&_}
+use mathlib.Core.List.{List, [], _∷_, _++_, append-assoc}
 use mathlib.Core.Option.{Option, none, some, Option·map, Option·some-injective, Option·none-ne-some}
-use Prim.Native.Nat.{ℕ, zero, suc, _+_, _^_, _<_, _≤_}
+use Prim.Native.Nat.{ℕ, zero, _+_, _^_, _<_}
 use native.Mathlib.Omega.{arith}
 use lib.Dec.{T, eqb, ltb, lt→ltb}
-use lib.ListN.{length, getD, take}
-use borrow.Author.Tests.{ltb-false, lt-ltb}
+use lib.ListN.{length, take}
+use borrow.Author.Tests.{ltb-false}
 use Rattle.bits.specs.Bytes.{Bytes}
-use Rattle.bits.proofs.Choice.{cond-on, and-both, T-true}
+use Rattle.bits.proofs.Choice.{and-both, T-true}
 use Rattle.isa.specs.Address.{effectiveAddress}
 use Rattle.isa.specs.Decode.{decode}
 use Rattle.isa.specs.Ranges.{handleLength}
@@ -27,9 +27,9 @@ use Rattle.model.specs.Records.{processorAt}
 use Rattle.model.specs.Cpu.{xmm, zf}
 use Rattle.model.specs.Forms.{Form, single, wide, formOf, handleAddress, handleRead}
 use Rattle.model.specs.Calls.{PowerOn, StepCall, Call, step, read, write, settle, sleep, reset, stepOf, Answer, Outcome}
-use Rattle.model.specs.Refusals.{View, outside, refusal}
+use Rattle.model.specs.Refusals.{View, refusal}
 use Rattle.model.specs.Instructions.{encodedHandle, encoded, used, execute, advanced, stepped, executed}
-use Rattle.model.specs.Execution.{viewOf, perform, numberOf, call, run, powerOn}
+use Rattle.model.specs.Execution.{perform, call, run, powerOn}
 use Rattle.model.specs.History.{keyOf, nameAt, atFirst, viewGiven, history, refusals}
 use Rattle.model.specs.Demand3.{Encode, encodeMade, encodeIn, UseMade, useMade, useIn, encodeOf, useOf, Agree, Works, answerAt, given, allOf, everyName, ByteStrings, Demand3}
 use Rattle.model.specs.declared.IwKey.{IwKey}

@@ -2,16 +2,15 @@
 -- Assumes nothing.
 use mathlib.Core.Path.{_≡_, _∙_, refl, sym, ap, subst}
 use mathlib.Core.Bool.{Bool, true, false, cond, not}
-use mathlib.Core.List.{List, [], _∷_}
-use mathlib.Core.Option.{Option, none, some}
-use Prim.Native.Nat.{ℕ, zero, suc}
+use mathlib.Core.List.{List}
+use Prim.Native.Nat.{ℕ}
 use native.Mathlib.Nat.{suc-ne-zero}
 use lib.Dec.{T, eqb}
 use borrow.Author.Tests.{eqb-true, eqb-false, eq-eqb, ne-eqb}
 use lib.ListN.{getD, set, List·getD-map}
 use lib.Seq.{set-getD, getD-set-other, map-set-same}
 use Rattle.bits.proofs.Choice.{cond-on, cond-off}
-use Rattle.model.specs.Calls.{StepCall, ReadCall, Call, step, read, write, settle, sleep, reset, lentCpu, Answer, Outcome}
+use Rattle.model.specs.Calls.{StepCall, ReadCall, Call, step, read, write, settle, sleep, reset, Outcome}
 use Rattle.model.specs.Validity.{valid}
 use Rattle.model.specs.Refusals.{refusal}
 use Rattle.isa.specs.Decode.{decode}

@@ -4,13 +4,13 @@ use mathlib.Core.Path.{_≡_, _∙_, refl, sym, ap, ap₂, subst}
 use mathlib.Core.Bool.{Bool, true, false, cond, not, _&&_, _||_}
 use mathlib.Core.List.{List, [], _∷_, _++_, map, append-nil}
 use mathlib.Core.Option.{Option, none, some, Option·map, Option·some-injective, Option·none-ne-some, Option·some-ne-none}
-use Prim.Native.Nat.{ℕ, zero, suc, _+_, _%_, _<_, _≤_}
+use Prim.Native.Nat.{ℕ, zero, suc, _+_, _<_, _≤_}
 use native.Mathlib.Omega.{arith}
-use lib.Dec.{T, eqb, leb, ltb, ltb→lt, lt→ltb, leb→le}
-use lib.ListN.{length, getD, set, take, replicate, length-append, length-set, length-replicate, length-take, List·getD-map, List·getD-append, length-map}
+use lib.Dec.{T, eqb, ltb, ltb→lt, lt→ltb}
+use lib.ListN.{length, getD, set, take, replicate, length-append, length-set, length-replicate, List·getD-map, List·getD-append, length-map}
 use lib.Seq.{append-snoc, getD-take, getD-append-seam, set-getD}
-use borrow.Author.Tests.{eqb-true, eqb-false, eq-eqb, ne-eqb}
-use Rattle.bits.proofs.Choice.{cond-on, cond-off, and-left, and-right, and-both, T-true, true-T, on-cond}
+use borrow.Author.Tests.{eq-eqb, ne-eqb}
+use Rattle.bits.proofs.Choice.{cond-on, cond-off, and-left, and-right, and-both, true-T, on-cond}
 use Rattle.isa.specs.Decode.{decode}
 use Rattle.isa.specs.declared.LoadIwKey.{LoadIwKey}
 use Rattle.model.specs.Records.{processorLimit, zeroKey, zeroProcessor, noProcessor, processorAt, absent, holding, withKey, withCopyStatus, withBackup, withStore, withPending, withValid, withError, withConsumed, withProcessors, withProcessor, withPlatform}
@@ -19,10 +19,10 @@ use Rattle.model.specs.Forms.{noBackup, keySource}
 use Rattle.model.specs.Instructions.{plainKey, mixedWith, loadedKey, executed}
 use Rattle.model.specs.Backup.{Copied, copyOut, copyIn, written, settled, storeKept, woken}
 use Rattle.model.specs.Execution.{zeroPlatform, fresh, viewOf, perform, numberOf, call, run}
-use Rattle.model.specs.Calls.{PowerOn, StepCall, WriteCall, Call, step, read, write, settle, sleep, reset, Answer}
+use Rattle.model.specs.Calls.{PowerOn, StepCall, WriteCall, Call, step, read, write, settle, sleep, reset}
 use Rattle.model.specs.Validity.{valid}
 use Rattle.model.specs.Refusals.{View, refusal}
-use Rattle.model.specs.History.{History, atFirst, viewGiven, callAt, noBackupIn, noBackupOf, loadIn, makes, keyMade, keyIn, keyOf, nameAt, renamed, loads, steppedNames, copiedOut, gets, writtenNames, settledNames, nameKept, wokenNames, moved, next, historyFrom, history, refusals}
+use Rattle.model.specs.History.{History, atFirst, viewGiven, callAt, noBackupIn, noBackupOf, loadIn, makes, keyMade, keyIn, keyOf, nameAt, renamed, loads, copiedOut, gets, settledNames, nameKept, wokenNames, moved, next, historyFrom, history, refusals}
 use Rattle.model.specs.Demand3.{Holding, slotKey, held, named, loadsKey, given, allOf, orNone, everyName}
 use Rattle.model.specs.declared.IwKey.{IwKey}
 use Rattle.model.specs.declared.Processor.{Processor}
@@ -32,7 +32,7 @@ use Rattle.model.specs.declared.Machine.{Machine}
 use Rattle.model.proofs.Lists.{map-set, map-take-set, map-replicate, take-replicate, map-append, getD-there, all-at, all-set, all-replicate, all-more}
 use Rattle.model.proofs.Frames.{by-number, call-number, executed-key}
 use Rattle.model.proofs.Refusals.{processor-below}
-use Rattle.model.proofs.Validities.{pending-flag, count-few, machine-parts, valid-number, call-valid, call-view}
+use Rattle.model.proofs.Validities.{pending-flag, count-few, valid-number, call-valid, call-view}
 
 -- ---- a name keeps its meaning while the list grows
 

@@ -9,10 +9,10 @@ use lib.Dec.{eqb}
 use lib.ListN.{length}
 use borrow.Author.Tests.{eqb-true, eqb-false, eq-eqb, ne-eqb}
 use Rattle.bits.proofs.Choice.{cond-on, cond-off, on-cond}
-use Rattle.model.specs.Calls.{PowerOn, Call, step, read, write, settle, sleep, reset, Outcome}
+use Rattle.model.specs.Calls.{PowerOn, Call, Outcome}
 use Rattle.model.specs.Validity.{validCount, validFeatures}
 use Rattle.model.specs.Refusals.{test, first}
-use Rattle.model.specs.Execution.{fresh, powerOnRefusal, done, powerOn, perform, numberOf, call, Run, run}
+use Rattle.model.specs.Execution.{fresh, powerOnRefusal, done, powerOn, call, Run, run}
 use Rattle.model.specs.Demand3.{ByteStrings, Demand3}
 use Rattle.model.specs.Layout.{machineSize, machineBytes, machineAt, Shaped}
 use Rattle.model.specs.Lent.{Lent, powerOnLentRefusal, powerOnLent, callLent, runLent}

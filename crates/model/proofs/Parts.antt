@@ -1,8 +1,8 @@
 -- Runs of stores into a list, and the parts that they leave or make.
 -- Assumes nothing.
-use mathlib.Core.Path.{_≡_, _∙_, refl, sym, ap}
+use mathlib.Core.Path.{_≡_, _∙_, refl, ap}
 use mathlib.Core.List.{List, [], _∷_, _++_, append-assoc}
-use Prim.Native.Nat.{ℕ, suc, _+_, _-_, _≤_, _<_}
+use Prim.Native.Nat.{ℕ, suc, _+_, _-_, _≤_}
 use native.Mathlib.Omega.{arith}
 use lib.ListN.{length, take, drop, set, length-take, length-drop}
 use lib.Seq.{sets, sets-eq, take-set-le, drop-set-lt, drop-set-add, drop-at, take-at, length-take-le}

@@ -1,16 +1,16 @@
 -- The arrays have their declared lengths at power-on, and keep them in every call.
 -- Assumes nothing.
-use mathlib.Core.Path.{_≡_, refl, sym, ap, subst, _∙_}
-use mathlib.Core.Bool.{Bool, true, false, cond, _&&_, _||_, true≢false, false≢true}
+use mathlib.Core.Path.{_≡_, refl, _∙_}
+use mathlib.Core.Bool.{Bool, true, false, _&&_, _||_, true≢false, false≢true}
 use mathlib.Core.List.{List, [], _∷_}
 use mathlib.Core.Option.{some}
-use Prim.Native.Nat.{ℕ, zero, suc, _≤_, _<_}
-use native.Mathlib.Nat.{suc-ne-zero, not-suc-le-zero, le-of-suc-le-suc}
+use Prim.Native.Nat.{ℕ, zero, suc, _<_}
+use native.Mathlib.Nat.{not-suc-le-zero, le-of-suc-le-suc}
 use native.Mathlib.Omega.{arith}
-use lib.Dec.{T, eqb, leb, leb→le}
+use lib.Dec.{T, eqb}
 use lib.ListN.{length, getD, set, drop, replicate, length-append, length-drop, length-set, length-replicate}
 use lib.Seq.{length-take-le}
-use borrow.Author.Tests.{eqb-true, leb-false, not-false}
+use borrow.Author.Tests.{eqb-true}
 use Rattle.bits.proofs.Choice.{on-cond}
 use Rattle.bits.proofs.Xor.{xor-length}
 use Rattle.isa.specs.declared.Decoded.{Decoded}
@@ -20,26 +20,15 @@ use Rattle.isa.specs.declared.Instruction.the-variants as instruction
 use Rattle.isa.specs.declared.LoadIwKey.{LoadIwKey}
 use Rattle.isa.specs.Decode.{decode}
 use Rattle.model.specs.Numbers.{bit, part}
-use Rattle.model.specs.Records.{
-  processorLimit,
-  zeroKey,
-  zeroProcessor,
-  noProcessor,
-  processorAt,
-  withKey,
-  withPending,
-  withConsumed,
-  withProcessor,
-  withPlatform,
-}
+use Rattle.model.specs.Records.{processorLimit, zeroKey, zeroProcessor, noProcessor, processorAt, withKey, withPending, withConsumed, withProcessor, withPlatform}
 use Rattle.model.specs.Cpu.{cpuSize, xmmAt, xmm}
 use Rattle.model.specs.Forms.{registerOf, keySource, notReady}
-use Rattle.model.specs.Calls.{StepCall, Call, step, read, write, settle, sleep, reset, processorOf, Outcome}
-use Rattle.model.specs.Validity.{validCount, validFeatures, validProcessors, validPlatform, valid}
-use Rattle.model.specs.Refusals.{View, of, randomLength, tests, refusal}
+use Rattle.model.specs.Calls.{StepCall, Call, step, read, write, settle, sleep, reset, processorOf}
+use Rattle.model.specs.Validity.{valid}
+use Rattle.model.specs.Refusals.{of, randomLength, refusal}
 use Rattle.model.specs.Instructions.{Executed, plainKey, mixedWith, loadedKey, load, execute, stepped, executed}
 use Rattle.model.specs.Backup.{Copied, copyOut, copyIn, written, settled, storeKept, woken}
-use Rattle.model.specs.Execution.{fresh, zeroPlatform, viewOf, perform, numberOf, call}
+use Rattle.model.specs.Execution.{fresh, zeroPlatform, viewOf, perform, call}
 use Rattle.model.specs.Layout.{ShapedKey, ShapedEntries, ShapedPlatform, Shaped}
 use Rattle.model.specs.declared.IwKey.{IwKey}
 use Rattle.model.specs.declared.Processor.{Processor}

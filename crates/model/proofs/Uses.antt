@@ -2,20 +2,20 @@
 -- Assumes nothing.
 use mathlib.Core.Path.{_≡_, _∙_, refl, sym, ap, ap₂}
 use mathlib.Core.Bool.{Bool, true, false, cond, not, _&&_, _||_, Bool·not-not, false≢true}
-use mathlib.Core.List.{List, [], _∷_}
+use mathlib.Core.List.{List}
 use mathlib.Core.Option.{Option, none, some}
 use Prim.Native.Nat.{ℕ, zero, suc, _+_, _*_, _^_, _/_, _%_, _≤_, _<_}
 use native.Mathlib.Nat.{zero-lt-suc}
 use native.Mathlib.Omega.{arith}
 use lib.Dec.{T, eqb, ltb, eqb·suc-zero}
 use lib.ListN.{length, take, replicate}
-use lib.Seq.{sets, length-sets, take-length, take-take}
+use lib.Seq.{sets, take-length, take-take}
 use borrow.Author.Tests.{lt-ltb, eqb-true}
 use Rattle.fips197.specs.Aes.{decrypt}
 use Rattle.fips197.proofs.Undo.{encrypt-length, inv-cipher-length}
 use Rattle.fips197.specs.KeyExpansion.{keyExpansion}
-use Rattle.handle.specs.Format.{aad, aadOf, keyType, restrictions, reservedBitSet}
-use Rattle.handle.specs.Wrap.{wrapKey, unwrapKey}
+use Rattle.handle.specs.Format.{aad, aadOf, restrictions}
+use Rattle.handle.specs.Wrap.{unwrapKey}
 use Rattle.handle.proofs.Aad.{aad-length, aad-key-type, aad-restrictions, aad-reserved}
 use Rattle.handle.proofs.Wrap.{wrap-length, wrap-aad, unwrap-wrap}
 use Rattle.aes.specs.Form.{nk}
@@ -26,11 +26,10 @@ use Rattle.aes.specs.declared.KeySize.the-variants.{Aes128, Aes256}
 use Rattle.isa.specs.Ranges.{handleLength}
 use Rattle.isa.specs.declared.EncodeKey.{EncodeKey}
 use Rattle.isa.proofs.Ranges.{length-few}
-use Rattle.bits.proofs.Choice.{cond-on, cond-off}
 use Rattle.bits.specs.Words.{leBytes}
 use Rattle.isa.specs.Address.{nextRip}
-use Rattle.model.specs.Numbers.{bit, part}
-use Rattle.model.specs.Cpu.{xmmAt, registerAt, ripAt, rflagsAt, cpuSize, xmm, register, rip, rflags, cpl, zf, flags, withRip, withZf, mapXmm}
+use Rattle.model.specs.Numbers.{bit}
+use Rattle.model.specs.Cpu.{xmmAt, registerAt, ripAt, rflagsAt, cpuSize, xmm, register, rip, rflags, cpl, zf, flags, withZf, mapXmm}
 use Rattle.model.specs.Forms.{Form, registerOf, handleRead}
 use Rattle.model.specs.Instructions.{typeOf, keyFrom, encodedHandle, encoded, forbids, illegal, openedFor, aes, ciphered, used, advanced}
 use Rattle.model.specs.Demand3.{Agree, directionAllows, member}

@@ -1,15 +1,13 @@
 -- A call keeps what refusal 1 asks of the machine, the count and the features.
 -- Assumes nothing.
-use mathlib.Core.Path.{_≡_, _∙_, refl, sym, ap, subst}
+use mathlib.Core.Path.{_≡_, _∙_, refl, sym, subst}
 use mathlib.Core.Bool.{Bool, true, false, cond, not, _&&_, _||_}
 use mathlib.Core.List.{List, [], _∷_}
-use mathlib.Core.Option.{Option, none, some}
-use Prim.Native.Nat.{ℕ, zero, suc, _+_, _^_, _/_, _%_, _<_, _≤_}
-use native.Mathlib.Nat.{add-zero}
+use Prim.Native.Nat.{ℕ, zero, suc, _+_, _^_, _/_, _<_, _≤_}
 use native.Mathlib.Omega.{arith}
 use lib.Dec.{T, eqb, leb, ltb, ltb→lt, lt→ltb, leb→le}
 use lib.ListN.{getD, set, replicate}
-use borrow.Author.Tests.{leb-false, ltb-false, ltb-true, lt-ltb}
+use borrow.Author.Tests.{ltb-false, lt-ltb}
 use Rattle.bits.proofs.Choice.{cond-on, or-left, or-right, and-left, and-right, and-both, T-true, true-T, on-cond}
 use Rattle.isa.specs.Decode.{decode}
 use Rattle.isa.specs.declared.Decoded.{Decoded}
@@ -22,7 +20,7 @@ use Rattle.model.specs.Forms.{noBackup, keySource, notReady}
 use Rattle.model.specs.Instructions.{plainKey, mixedWith, loadedKey, executed}
 use Rattle.model.specs.History.{loadIn, makes, keyMade}
 use Rattle.model.specs.Records.{processorLimit, withProcessor, withProcessors, withPlatform, noBackupSupported, randomSource, zeroProcessor, noProcessor, processorAt, absent, holding, withKey, withCopyStatus, withBackup, withStore, withPending, withValid, withError, withConsumed}
-use Rattle.model.specs.Calls.{PowerOn, StepCall, WriteCall, Call, step, read, write, settle, sleep, reset, Outcome}
+use Rattle.model.specs.Calls.{PowerOn, StepCall, Call, step, read, write, settle, sleep, reset, Outcome}
 use Rattle.model.specs.Validity.{flag, validCount, validFeatures, validKey, isZeroKey, validProcessor, validProcessors, validSlot, validPlatform, valid}
 use Rattle.model.specs.Refusals.{View, loadFault, refusal}
 use Rattle.model.specs.Backup.{Copied, copyOut, copyIn, written, settled, storeKept, woken}

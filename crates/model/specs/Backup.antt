@@ -1,22 +1,11 @@
 -- The scope, "Backup, sleep, reset" (Intel 343965-001US chapter 4): the backup registers over one processor and the platform, and what the persistent
 -- storage does.
 -- Assumes nothing.
-use mathlib.Core.Bool.{Bool, cond, _&&_, _||_}
+use mathlib.Core.Bool.{cond, _&&_, _||_}
 use Prim.Native.Nat.{ℕ, _+_, _*_}
 use lib.Dec.{eqb}
 use Rattle.model.specs.Numbers.{bit}
-use Rattle.model.specs.Records.{
-  absent,
-  holding,
-  withKey,
-  withCopyStatus,
-  withBackup,
-  withStore,
-  withPending,
-  withValid,
-  withError,
-  withConsumed,
-}
+use Rattle.model.specs.Records.{absent, holding, withKey, withCopyStatus, withBackup, withStore, withPending, withValid, withError, withConsumed}
 use Rattle.model.specs.declared.Processor.{Processor}
 use Rattle.model.specs.declared.Slot.{Slot}
 use Rattle.model.specs.declared.Platform.{Platform}
@@ -43,12 +32,13 @@ copyIn e f =
     (record { processor = withCopyStatus 1 (withKey (f .backup .key) e); platform = f })
     (record { processor = withCopyStatus 0 e; platform = f })
 
--- "Write 0xD91, bit 0 set", "Write 0xD92, bit 0 set", "Writing 0 does nothing."
+-- "Write 0xD91, bit 0 set", "Write 0xD92, bit 0 set", "Writing 0 does nothing." Any other address was refused.
 abbrev pub written : ℕ → ℕ → Processor → Platform → Copied
 written address value e f =
     cond (bit 0 value) (cond (eqb address 0xD91) (copyOut e f) (copyIn e f)) (record { processor = e; platform = f })
 
--- "Read 0x990: copy status in bit 0. Read 0x991: valid in bit 0, error 2, consumed 3"; "unnamed ones 0"
+-- "Read 0x990: copy status in bit 0. Read 0x991: valid in bit 0, error 2, consumed 3"; "unnamed ones 0". Any other address was
+-- refused.
 abbrev pub registerRead : ℕ → Processor → Platform → ℕ
 registerRead address e f = cond (eqb address 0x990) (e .«copy_status») (f .valid + 4 * f .error + 8 * f .consumed)
 

@@ -17,7 +17,6 @@ use Rattle.isa.specs.Ranges.{handleLength}
 use Rattle.isa.specs.declared.Decoded.{Decoded}
 use Rattle.isa.specs.declared.Decoded.the-variants as decoded
 use Rattle.isa.specs.declared.EncodeKey.{EncodeKey}
-use Rattle.isa.specs.declared.Instruction.{Instruction}
 use Rattle.isa.specs.declared.Instruction.the-variants as instruction
 use Rattle.model.specs.Numbers.{bit}
 use Rattle.model.specs.Cpu.{xmm, register, cpl, zf}
@@ -117,7 +116,7 @@ encodeIn s (decoded.Found (instruction.EncodeKey e) lock bytes) = some (encodeMa
 encodeIn s decoded.BadByte = none
 encodeIn s decoded.EndOfString = none
 
--- "A use is one of the eight forms with a handle in memory": its processor, form, and the bytes that it reads
+-- "A use is one of the eight forms with a handle in memory": its processor, CPU record and form, and the bytes that it reads
 pub record UseMade : Type 0 where
   pub processor : ℕ
   pub cpu : List ℕ
@@ -192,7 +191,7 @@ pub record Demand3 (p : PowerOn) (calls : List Call) (r : Run) : Type 0 where
   -- call by call the number is the history machine's, and it is never 1
   pub numbers : map (λ a. a .number) (r .answers) ≡ refusals p calls
   pub never1 : allOf (λ n. not (eqb n 1)) (refusals p calls) ≡ true
-  -- "every processor, the backup and the store hold exactly the wrapping keys that the plain history machine names, or none where it names none"
+  -- "every processor, the backup and the store hold exactly the wrapping keys that the plain history machine .. names, or none where it names none"
   pub keys : held (r .machine) ≡ named calls (history p calls)
   pub names : everyName (given p calls) (history p calls) ≡ true
   -- "any use in the list that no refusal stops, of a handle that an earlier call of the list encoded under a key of the same name"

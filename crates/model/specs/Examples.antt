@@ -1,4 +1,4 @@
--- The scope, "Twelve settled examples": K1 to K12 as one list, and what it is for an example to hold.
+-- The scope, "Twelve settled examples": K1 to K12 as one list, with a few more behind them, and what it is for an example to hold.
 -- Assumes nothing.
 use mathlib.Core.Path.{_≡_}
 use mathlib.Core.List.{List, [], _∷_, _++_}

@@ -5,32 +5,8 @@ use mathlib.Core.List.{List, [], _∷_}
 use Prim.Native.Nat.{ℕ}
 use lib.Dec.{eqb}
 use lib.ListN.{replicate}
-use Rattle.model.specs.Records.{
-  processorLimit,
-  zeroProcessor,
-  absent,
-  processorAt,
-  withKey,
-  withProcessors,
-  withProcessor,
-  withPlatform,
-}
-use Rattle.model.specs.Calls.{
-  PowerOn,
-  StepCall,
-  ReadCall,
-  WriteCall,
-  Call,
-  step,
-  read,
-  write,
-  settle,
-  sleep,
-  reset,
-  lentCpu,
-  Answer,
-  Outcome,
-}
+use Rattle.model.specs.Records.{processorLimit, zeroProcessor, absent, processorAt, withKey, withProcessors, withProcessor, withPlatform}
+use Rattle.model.specs.Calls.{PowerOn, StepCall, ReadCall, WriteCall, Call, step, read, write, settle, sleep, reset, lentCpu, Answer, Outcome}
 use Rattle.model.specs.Validity.{validCount, validFeatures, valid}
 use Rattle.model.specs.Refusals.{View, test, first, refusal}
 use Rattle.model.specs.Instructions.{executed}
@@ -85,7 +61,7 @@ performWrite m w =
     let x = written (w .address) (w .value) (processorAt m (w .processor)) (m .platform) in
     done (withPlatform (x .platform) (withProcessor (w .processor) (x .processor) m)) [] 0
 
--- "Sleep and wake: IWKeys zero, copy statuses 0"; "Reset: as power-on, same count and features."
+-- "Sleep and wake ..: IWKeys zero, copy statuses 0"; "Reset: as power-on, same count and features."
 unfoldable pub perform : Machine → Call → Outcome
 perform m (step s) = performStep m s
 perform m (read r) = performRead m r
@@ -108,7 +84,7 @@ pub record Run : Type 0 where
   pub answers : List Answer
   pub machine : Machine
 
--- the scope, "The plain history machine": "Each call gets the machine that the one before left"
+-- demand 3: "Each call gets the machine that the one before left, and nobody else writes it meanwhile."
 abbrev pub run : Machine → List Call → Run
 run m [] = record { answers = []; machine = m }
 run m (c ∷ l) =

@@ -11,8 +11,6 @@ use Rattle.aes.specs.declared.KeySize.{KeySize}
 use Rattle.isa.specs.Address.{effectiveAddress}
 use Rattle.isa.specs.Ranges.{handleLength}
 use Rattle.isa.specs.declared.Address.{Address}
-use Rattle.isa.specs.declared.Decoded.{Decoded}
-use Rattle.isa.specs.declared.Decoded.the-variants as decoded
 use Rattle.isa.specs.declared.Instruction.{Instruction}
 use Rattle.isa.specs.declared.Instruction.the-variants as instruction
 use Rattle.isa.specs.declared.Operand.{Operand}

@@ -3,9 +3,9 @@
 use mathlib.Core.Bool.{Bool, cond, not, _&&_, _||_}
 use mathlib.Core.List.{List, _++_}
 use mathlib.Core.Option.{Option, none, some}
-use Prim.Native.Nat.{ℕ, _+_, _*_, _%_}
+use Prim.Native.Nat.{ℕ, _+_, _*_}
 use lib.Dec.{eqb, ltb}
-use lib.ListN.{take, replicate}
+use lib.ListN.{replicate}
 use lib.Seq.{sets}
 use Rattle.bits.specs.Bytes.{xorBytes}
 use Rattle.fips197.specs.Aes.{encrypt, decrypt}

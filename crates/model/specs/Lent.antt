@@ -1,6 +1,6 @@
 -- The scope, "Records": "For C it is lent as 924 bytes". The calls on a lent block of bytes, and lists of them on one block.
 -- Assumes nothing.
-use mathlib.Core.Bool.{cond, not, _&&_, _||_}
+use mathlib.Core.Bool.{cond, not, _&&_}
 use mathlib.Core.List.{List, [], _∷_}
 use Prim.Native.Nat.{ℕ}
 use lib.Dec.{eqb}

@@ -8,7 +8,6 @@ use lib.Dec.{eqb, leb, ltb}
 use lib.ListN.{length}
 use Rattle.isa.specs.Decode.{decode}
 use Rattle.isa.specs.Ranges.{handleLength, someNotCanonical, someOutside}
-use Rattle.isa.specs.declared.Address.{Address}
 use Rattle.isa.specs.declared.Decoded.{Decoded}
 use Rattle.isa.specs.declared.Decoded.the-variants as decoded
 use Rattle.isa.specs.declared.Instruction.{Instruction}
@@ -19,23 +18,7 @@ use Rattle.model.specs.Numbers.{bit}
 use Rattle.model.specs.Records.{keyLocker, firmwareEnabled, wideForms, backupRegisters, noBackupSupported, randomSource}
 use Rattle.model.specs.Cpu.{cpuSize, register, eax, cpl, control, cr4Kl, cr4Osfxsr, cr0Em, cr0Ts, zeroFieldSet}
 use Rattle.model.specs.Forms.{Form, formOf, registerOf, handleAddress, keySource, noBackup}
-use Rattle.model.specs.Calls.{
-  StepCall,
-  ReadCall,
-  WriteCall,
-  SettleCall,
-  SleepCall,
-  Call,
-  step,
-  read,
-  write,
-  settle,
-  sleep,
-  reset,
-  processorOf,
-  stepOf,
-  cplOf,
-}
+use Rattle.model.specs.Calls.{StepCall, Call, step, read, write, settle, sleep, reset, processorOf, stepOf, cplOf}
 
 -- all that a refusal other than 1 depends on, besides the call
 pub record View : Type 0 where
