@@ -115,7 +115,11 @@ pub fn encode(e: EncodeKey, k: IwKey, cpu: [u8; 408]) -> [u8; 408]
     let mut c = cpu;
     put_handle(&mut c, size, h);
     clear_xmm(&mut c);
-    put_register(&mut c, e.destination, (k.no_backup as u64) + 2 * (k.source as u64));
+    put_register(
+        &mut c,
+        e.destination,
+        (k.no_backup as u64) + 2 * (k.source as u64),
+    );
     put_zf(&mut c, 0);
     c
 }

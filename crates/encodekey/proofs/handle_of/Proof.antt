@@ -42,7 +42,7 @@ returns c =
     let cpu = st .args .cpu .now in
     let size = e .size in
     let named = c .before .before .aad-of .ensures
-      ∙ ap (aad (typeOf size)) (c .before .before .before .before .before .before .before .register .ensures ∙ ap (λ (n : ℕ). register n cpu) (c .before .before .before .before .before .before .before .before .register-of .ensures)) in
+    ∙ ap (aad (typeOf size)) (c .before .before .before .before .before .before .before .register .ensures ∙ ap (λ (n : ℕ). register n cpu) (c .before .before .before .before .before .before .before .before .register-of .ensures)) in
     handle-read size (c .wrap .result) (encodedHandle e k cpu)
     (c .wrap .ensures
     ∙ ap (padded 64)
