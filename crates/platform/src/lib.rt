@@ -38,20 +38,18 @@ pub fn copy_out(e: Processor, f: Platform) -> Copied
         return failed_copy(e, f);
     }
     let backup = Slot { present: 1, key };
-    let store = f.store;
+    let mut platform = f;
+    platform.backup = backup;
+    platform.pending = 1;
+    platform.valid = 0;
+    platform.error = 0;
+    platform.consumed = 0;
     Copied {
         processor: Processor {
             key,
             copy_status: 1,
         },
-        platform: Platform {
-            backup,
-            store,
-            pending: 1,
-            valid: 0,
-            error: 0,
-            consumed: 0,
-        },
+        platform,
     }
 }
 

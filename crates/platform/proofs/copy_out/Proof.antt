@@ -15,7 +15,7 @@ returns c = c .failed-copy .ensures ∙ sym (cond-on (c .before .if1 .taken) _ _
 
 returns-2 : tie.Need-returns-2
 unfolding copyOut
-returns-2 c = sym (cond-off (c .before .if1 .left) _ _)
+returns-2 c = sym (cond-off (c .if1 .left) _ _)
 
 pub copy-out-spec : {M : Type 1} → statement M
 copy-out-spec = tie.close (tie.spec failed-copy-requires returns returns-2)
