@@ -53,7 +53,7 @@ pub fn copy_out(e: Processor, f: Platform) -> Copied
     }
 }
 
-// "Write 0xD92, bit 0 set"
+// "Write 0xD92, bit 0 set: fails (copy status 0) if backup is absent"
 pub fn copy_in(e: Processor, f: Platform) -> Copied
     ensures { λ r. ⌜ copiedOf r ≡ model.copyIn e f ⌝ }
 {
@@ -139,7 +139,7 @@ pub fn settle(code: u8, f: Platform) -> Platform
     f
 }
 
-// What the storage holds as the platform wakes: a backup that was still on its way arrived, or did not.
+// "If pending, the store becomes what it was, the backup, or junk; if not, only code 2 alters it." Junk is an absent store.
 fn store_kept(code: u8, f: Platform) -> Slot
     ensures { λ r. ⌜ r ≡ model.storeKept code f ⌝ }
 {
