@@ -1,0 +1,39 @@
+-- A test of every element of a list: what is tested, and what is left to test from index i on.
+-- Assumes nothing.
+use mathlib.Core.Path.{_≡_, _∙_, sym, ap}
+use mathlib.Core.Bool.{Bool, _&&_, and-assoc, and-true}
+use mathlib.Core.List.{List}
+use Prim.Native.Nat.{ℕ, _+_, _<_, _≤_}
+use native.Mathlib.Numerals.{add-one}
+use lib.Dec.{eqb, ltb}
+use lib.ListN.{length, getD, drop, drop-of-length-le}
+use lib.Seq.{drop-cons}
+use Rattle.model.specs.Numbers.{allZero}
+use Rattle.model.specs.Records.{noProcessor}
+use Rattle.model.specs.Validity.{validProcessor, validProcessors}
+use Rattle.model.specs.declared.Processor.{Processor}
+
+-- bytes
+zero-step : (a : List ℕ) (i : ℕ) → i < length a → allZero (drop i a) ≡ eqb (getD a i 0) 0 && allZero (drop (i + 1) a)
+zero-step a i h = rw (add-one, drop-cons a i 0)
+
+pub zero-next : (a : List ℕ) (z : Bool) (i : ℕ) → i < length a → z && eqb (getD a i 0) 0 && allZero (drop (i + 1) a) ≡ z && allZero (drop i a)
+zero-next a z i h =
+    and-assoc z (eqb (getD a i 0) 0) (allZero (drop (i + 1) a)) ∙ ap (λ (b : Bool). z && b) (sym (zero-step a i h))
+
+pub zero-last : (a : List ℕ) (z : Bool) (i : ℕ) → length a ≤ i → z ≡ z && allZero (drop i a)
+zero-last a z i h = sym (ap (λ (l : List ℕ). z && allZero l) (drop-of-length-le a h) ∙ and-true z)
+
+-- processors
+valid-step : (count : ℕ) (l : List Processor) (i : ℕ) → i < length l
+    → validProcessors count i (drop i l) ≡ validProcessor (ltb i count) (getD l i noProcessor) && validProcessors count (i + 1) (drop (i + 1) l)
+valid-step count l i h = rw (add-one, drop-cons l i noProcessor)
+
+pub valid-next : (count : ℕ) (l : List Processor) (z : Bool) (i : ℕ) → i < length l
+    → z && validProcessor (ltb i count) (getD l i noProcessor) && validProcessors count (i + 1) (drop (i + 1) l) ≡ z && validProcessors count i (drop i l)
+valid-next count l z i h =
+    and-assoc z (validProcessor (ltb i count) (getD l i noProcessor)) (validProcessors count (i + 1) (drop (i + 1) l))
+    ∙ ap (λ (b : Bool). z && b) (sym (valid-step count l i h))
+
+pub valid-last : (count : ℕ) (l : List Processor) (z : Bool) (i : ℕ) → length l ≤ i → z ≡ z && validProcessors count i (drop i l)
+valid-last count l z i h = sym (ap (λ (m : List Processor). z && validProcessors count i m) (drop-of-length-le l h) ∙ and-true z)
