@@ -1,15 +1,27 @@
 // The eight uses of a handle (Intel 343965-001US 3.2 to 3.9), over one IWKey, the handle and the CPU record.
 ghost use mathlib.Core.Path.{_≡_};
+ghost use mathlib.Core.List.{[], _∷_};
+ghost use Prim.Native.Nat.{_/_};
 ghost use lib.ListN.{length};
-ghost use Rattle.aes.specs.Form.{bytesOf};
+ghost use Rattle.bits.specs.Blocks.{mapBlocks};
+ghost use Rattle.aes.specs.Form.{bytesOf, keyBytes};
 ghost use Rattle.keywrap.specs.Form.{opened, paddedKey, handleBytes};
-ghost use Rattle.model.specs.Cpu.{cpl};
+ghost use Rattle.model.specs.Cpu.{cpl, withXmm, withZf, mapXmm};
 ghost use Rattle.model.specs.Instructions as model;
 use aes::Block;
 use aes::Direction;
+use aes::Key;
 use aes::KeySize;
+use aes::cipher::encrypt_block;
+use aes::inv_cipher::decrypt_block;
 use aes::word::from_bytes;
 use aes::word::key_from_bytes;
+use aes_blocks::decrypt_blocks;
+use aes_blocks::encrypt_blocks;
+use aes_key::key_expansion;
+use cpu::put_xmm;
+use cpu::put_zf;
+use cpu::xmm;
 use keywrap::Handle;
 use keywrap::Unwrapped;
 use keywrap::siv::unwrap;
@@ -38,10 +50,11 @@ fn illegal(cpl: u8, size: KeySize, direction: Direction, aad: Block) -> bool
     ensures { λ r. ⌜ r ≡ model.illegal cpl size direction (bytesOf aad) ⌝ }
 {
     let w = aad.a;
-    let reserved = !((w / 0x1000_0000 == 0) & (aad.b == 0) & (aad.c == 0) & (aad.d == 0) & (w / 8 % 0x20_0000 == 0));
+    let reserved = !(((w / 0x1000_0000 == 0) & ((aad.b == 0) & ((aad.c == 0) & (aad.d == 0))))
+        & (w / 8 % 0x20_0000 == 0));
     reserved
         | !(w / 0x100_0000 % 16 == type_of(size))
-        | ((w % 8 % 2 == 1) & (0 < cpl))
+        | ((w % 2 == 1) & (0 < cpl))
         | forbids(direction, w % 8)
 }
 
@@ -55,4 +68,91 @@ pub fn opened_for(k: IwKey, cpl: u8, size: KeySize, direction: Direction, h: Han
     let integrity = k.integrity;
     let encryption = k.encryption;
     unwrap(size, from_bytes(integrity), key_from_bytes(encryption), h)
+}
+
+// ---- blocks
+
+fn cipher_block(direction: Direction, size: KeySize, key: Key, b: Block) -> Block
+    ensures { λ r. ⌜ bytesOf r ≡ model.aes direction size (keyBytes size key) (bytesOf b) ⌝ }
+{
+    let w = key_expansion(size, key);
+    match direction {
+        Direction::Encrypt => encrypt_block(size, &w, b),
+        Direction::Decrypt => decrypt_block(size, &w, b),
+    }
+}
+
+fn cipher_blocks(direction: Direction, size: KeySize, key: Key, bytes: &mut [u8])
+    ensures { λ _. ⌜ now (bytes .exit) ≡ mapBlocks (model.aes direction size (keyBytes size key)) (length (now (bytes .entry)) / 16) (now (bytes .entry)) ⌝ }
+{
+    let w = key_expansion(size, key);
+    match direction {
+        Direction::Encrypt => encrypt_blocks(size, &w, bytes),
+        Direction::Decrypt => decrypt_blocks(size, &w, bytes),
+    }
+}
+
+// The handle gave no key: the blocks stay.
+fn failed(cpu: [u8; 408]) -> [u8; 408]
+    ensures { λ r. ⌜ r ≡ withZf 1 cpu ⌝ }
+{
+    let mut c = cpu;
+    put_zf(&mut c, 1);
+    c
+}
+
+// The block goes back to its register.
+fn done_single(cpu: [u8; 408], n: u8, b: Block) -> [u8; 408]
+    ensures { λ r. ⌜ r ≡ withZf 0 (withXmm n (bytesOf b) cpu) ⌝ }
+{
+    let mut c = cpu;
+    put_xmm(&mut c, n, b);
+    put_zf(&mut c, 0);
+    c
+}
+
+// XMM0 to XMM7 are the first 128 bytes of the record.
+fn done_wide(direction: Direction, size: KeySize, key: Key, cpu: [u8; 408]) -> [u8; 408]
+    ensures { λ r. ⌜ r ≡ withZf 0 (mapXmm (model.aes direction size (keyBytes size key)) (0 ∷ 1 ∷ 2 ∷ 3 ∷ 4 ∷ 5 ∷ 6 ∷ 7 ∷ []) cpu) ⌝ }
+{
+    let mut c = cpu;
+    cipher_blocks(direction, size, key, &mut c[0..128]);
+    put_zf(&mut c, 0);
+    c
+}
+
+// AESENC128KL, AESDEC128KL, AESENC256KL, AESDEC256KL.
+pub fn use_single(
+    direction: Direction,
+    size: KeySize,
+    block: u8,
+    k: IwKey,
+    h: Handle,
+    cpu: [u8; 408],
+) -> [u8; 408]
+    ensures { λ r. ⌜ r ≡ model.ciphered direction size (block ∷ []) (model.openedFor k (cpl cpu) size direction (handleBytes size h)) cpu ⌝ }
+{
+    let level = cpu::cpl(&cpu);
+    let Unwrapped::Key(key) = opened_for(k, level, size, direction, h) else {
+        return failed(cpu);
+    };
+    let b = cipher_block(direction, size, key, xmm(&cpu, block));
+    done_single(cpu, block, b)
+}
+
+// The wide forms, on XMM0 to XMM7.
+pub fn use_wide(
+    direction: Direction,
+    size: KeySize,
+    k: IwKey,
+    h: Handle,
+    cpu: [u8; 408],
+) -> [u8; 408]
+    ensures { λ r. ⌜ r ≡ model.ciphered direction size (0 ∷ 1 ∷ 2 ∷ 3 ∷ 4 ∷ 5 ∷ 6 ∷ 7 ∷ []) (model.openedFor k (cpl cpu) size direction (handleBytes size h)) cpu ⌝ }
+{
+    let level = cpu::cpl(&cpu);
+    let Unwrapped::Key(key) = opened_for(k, level, size, direction, h) else {
+        return failed(cpu);
+    };
+    done_wide(direction, size, key, cpu)
 }

@@ -176,7 +176,7 @@ module _ (e : EncodeKey) (k : IwKey) (cpu : List ℕ) (l : length cpu ≡ cpuSiz
 
 -- ---- the CPU record after a use
 
-aes-length : (d : Direction) (size : KeySize) (key b : List ℕ) → length (aes d size key b) ≡ 16
+pub aes-length : (d : Direction) (size : KeySize) (key b : List ℕ) → length (aes d size key b) ≡ 16
 unfolding decrypt
 aes-length Encrypt size key b = encrypt-length (nk size) key b
 aes-length Decrypt size key b = inv-cipher-length (keyExpansion (nk size) key) (nk size + 6) b

@@ -1,18 +1,20 @@
+use mathlib.Core.Path.{_∙_, sym, ap, ap₂}
+use mathlib.Core.List.{List}
+use Prim.Native.Nat.{ℕ}
+use Rattle.handle.specs.Wrap.{unwrapKey}
+use Rattle.keywrap.specs.Form.{paddedKey, handleBytes}
+use Rattle.aeskl.proofs.Openings.{not-opened, unwrapped}
 use borrow.Author.Needs.{needs}
 use Rattle.aeskl.proofs.opened_for.Statement.{statement}
 use Rattle.aeskl.proofs.opened_for.Tie as tie
-use Rattle.aeskl.proofs.opened_for.Reads as reads
-use Rattle.aeskl.proofs.opened_for.Lts as lts
-use Rattle.aes.proofs.word.from_bytes.Reads as from-bytes-reads
-use Rattle.aes.proofs.word.key_from_bytes.Reads as key-from-bytes-reads
-use Rattle.aeskl.proofs.illegal.Reads as illegal-reads
-use Rattle.keywrap.proofs.siv.unwrap.Reads as unwrap-reads
 
 illegal-requires : tie.Need-illegal-requires
 illegal-requires c κs = search needs
 
 returns : tie.Need-returns
-returns c = ?
+returns c =
+    let a = c .before .before .args in
+    ap paddedKey (sym (not-opened (a .k) (a .cpl) (a .size) (a .direction) (a .h) (sym (c .before .illegal .ensures) ∙ c .if1 .taken)))
 
 from-bytes-requires : tie.Need-from-bytes-requires
 from-bytes-requires c κs = search needs
@@ -24,7 +26,11 @@ unwrap-requires : tie.Need-unwrap-requires
 unwrap-requires c κs = search needs
 
 returns-2 : tie.Need-returns-2
-returns-2 c = ?
+returns-2 c =
+    let a = c .before .before .before .before .before .before .before .args in
+    c .unwrap .ensures
+    ∙ ap₂ (λ (i e : List ℕ). paddedKey (unwrapKey i e (handleBytes (a .size) (a .h)))) (c .before .before .from-bytes .ensures) (c .before .key-from-bytes .ensures)
+    ∙ ap paddedKey (unwrapped (a .k) (a .cpl) (a .size) (a .direction) (a .h) (sym (c .before .before .before .before .before .before .illegal .ensures) ∙ c .before .before .before .before .before .if1 .left))
 
 pub opened-for-spec : {M : Type 1} → statement M
 opened-for-spec =

@@ -1,0 +1,55 @@
+use mathlib.Core.Path.{_∙_, sym, ap}
+use mathlib.Core.List.{List}
+use Prim.Native.Nat.{ℕ}
+use Rattle.fips197.specs.Aes.{encrypt, decrypt}
+use Rattle.fips197.specs.Cipher.{cipher}
+use Rattle.fips197.specs.InvCipher.{invCipher}
+use Rattle.aes.specs.Form.{bytesOf, nr, keyBytes}
+use Rattle.aes.specs.declared.Direction.{Direction}
+use Rattle.model.specs.Instructions.{aes}
+use borrow.Author.Needs.{needs}
+use Rattle.aeskl.proofs.cipher_block.Statement.{statement}
+use Rattle.aeskl.proofs.cipher_block.Tie as tie
+
+key-expansion-requires : tie.Need-key-expansion-requires
+key-expansion-requires c κs = search needs
+
+enum-told : tie.Need-enum-told
+enum-told c = search needs
+
+encrypt-block-requires : tie.Need-encrypt-block-requires
+encrypt-block-requires c κs = search needs
+
+enum-told-2 : tie.Need-enum-told-2
+enum-told-2 c = search needs
+
+decrypt-block-requires : tie.Need-decrypt-block-requires
+decrypt-block-requires c κs = search needs
+
+returns : tie.Need-returns
+unfolding encrypt
+returns c =
+    let a = c .before .before .before .before .before .args in
+    c .encrypt-block .ensures
+    ∙ ap (λ (w : List ℕ). cipher w (nr (a .size)) (bytesOf (a .b))) (c .before .before .before .before .key-expansion .ensures)
+    ∙ ap (λ (d : Direction). aes d (a .size) (keyBytes (a .size) (a .key)) (bytesOf (a .b))) (sym (c .before .before .enum-told .given .1))
+
+returns-2 : tie.Need-returns-2
+unfolding decrypt
+returns-2 c =
+    let a = c .before .before .before .before .before .args in
+    c .decrypt-block .ensures
+    ∙ ap (λ (w : List ℕ). invCipher w (nr (a .size)) (bytesOf (a .b))) (c .before .before .before .before .key-expansion .ensures)
+    ∙ ap (λ (d : Direction). aes d (a .size) (keyBytes (a .size) (a .key)) (bytesOf (a .b))) (sym (c .before .before .enum-told2 .given .1))
+
+pub cipher-block-spec : {M : Type 1} → statement M
+cipher-block-spec =
+    tie.close
+    (tie.spec
+    key-expansion-requires
+    enum-told
+    encrypt-block-requires
+    enum-told-2
+    decrypt-block-requires
+    returns
+    returns-2)

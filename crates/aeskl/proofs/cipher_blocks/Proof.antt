@@ -1,0 +1,67 @@
+use mathlib.Core.Path.{_∙_, sym, ap}
+use mathlib.Core.List.{List}
+use Prim.Native.Nat.{ℕ, _/_}
+use lib.ListN.{length}
+use Rattle.bits.specs.Blocks.{mapBlocks}
+use Rattle.fips197.specs.Aes.{encrypt, decrypt}
+use Rattle.fips197.specs.Cipher.{cipher}
+use Rattle.fips197.specs.InvCipher.{invCipher}
+use Rattle.aes.specs.Form.{nr, keyBytes}
+use Rattle.aes.specs.declared.Direction.{Direction}
+use Rattle.model.specs.Instructions.{aes}
+use borrow.Author.Needs.{needs}
+use Rattle.aeskl.proofs.cipher_blocks.Statement.{statement}
+use Rattle.aeskl.proofs.cipher_blocks.Tie as tie
+
+key-expansion-requires : tie.Need-key-expansion-requires
+key-expansion-requires c κs = search needs
+
+enum-told : tie.Need-enum-told
+enum-told c = search needs
+
+encrypt-blocks-requires : tie.Need-encrypt-blocks-requires
+encrypt-blocks-requires c κs = search needs
+
+enum-told-2 : tie.Need-enum-told-2
+enum-told-2 c = search needs
+
+decrypt-blocks-requires : tie.Need-decrypt-blocks-requires
+decrypt-blocks-requires c κs = search needs
+
+same-length : tie.Need-same-length
+same-length c = search needs
+
+returns : tie.Need-returns
+unfolding encrypt
+returns c =
+    let a = c .before .before .before .before .before .before .before .before .before .args in
+    let s = a .bytes .now in
+    c .before .before .encrypt-blocks .ensures
+    ∙ ap (λ (w : List ℕ). mapBlocks (cipher w (nr (a .size))) (length s / 16) s) (c .before .before .before .before .before .before .before .key-expansion .ensures)
+    ∙ ap (λ (d : Direction). mapBlocks (aes d (a .size) (keyBytes (a .size) (a .key))) (length s / 16) s) (sym (c .before .before .before .before .before .enum-told .given .1))
+
+same-length-2 : tie.Need-same-length-2
+same-length-2 c = search needs
+
+returns-2 : tie.Need-returns-2
+unfolding decrypt
+returns-2 c =
+    let a = c .before .before .before .before .before .before .before .before .before .args in
+    let s = a .bytes .now in
+    c .before .before .decrypt-blocks .ensures
+    ∙ ap (λ (w : List ℕ). mapBlocks (invCipher w (nr (a .size))) (length s / 16) s) (c .before .before .before .before .before .before .before .key-expansion .ensures)
+    ∙ ap (λ (d : Direction). mapBlocks (aes d (a .size) (keyBytes (a .size) (a .key))) (length s / 16) s) (sym (c .before .before .before .before .before .enum-told2 .given .1))
+
+pub cipher-blocks-spec : {M : Type 1} → statement M
+cipher-blocks-spec =
+    tie.close
+    (tie.spec
+    key-expansion-requires
+    enum-told
+    encrypt-blocks-requires
+    enum-told-2
+    decrypt-blocks-requires
+    same-length
+    returns
+    same-length-2
+    returns-2)
