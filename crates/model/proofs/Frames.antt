@@ -43,7 +43,7 @@ module _ (m : Machine) (c : Call) where
   unfolding call
   call-performed e = cond-on (eq-eqb (numberOf m c) 0 e) (perform m c) (refused (numberOf m c) m c)
 
-  call-stopped : (numberOf m c ≡ 0 → ⊥) → call m c ≡ refused (numberOf m c) m c
+  pub call-stopped : (numberOf m c ≡ 0 → ⊥) → call m c ≡ refused (numberOf m c) m c
   unfolding call
   call-stopped e = cond-off (ne-eqb (numberOf m c) 0 e) (perform m c) (refused (numberOf m c) m c)
 

@@ -4,11 +4,6 @@ use Rattle.model.specs.Cpu.{withRip}
 use borrow.Author.Needs.{needs}
 use Rattle.instructions.proofs.advance.Statement.{statement}
 use Rattle.instructions.proofs.advance.Tie as tie
-use Rattle.instructions.proofs.advance.Reads as reads
-use Rattle.instructions.proofs.advance.Lts as lts
-use Rattle.cpu.proofs.put_rip.Reads as put-rip-reads
-use Rattle.cpu.proofs.rip.Reads as rip-reads
-use Rattle.std.proofs.num.wrapping_add_u64.Reads as wrapping-add-u64-reads
 
 slice-aggregate-rip : tie.Need-slice-aggregate-rip
 slice-aggregate-rip c = search needs

@@ -1,19 +1,11 @@
-use mathlib.Core.Path.{_≡_, _∙_, sym, ap, ap₂}
-use mathlib.Core.List.{List, _++_}
-use Prim.Native.Nat.{ℕ, _+_, _≤_}
+use mathlib.Core.Path.{_≡_, ap}
 use native.Mathlib.Omega.{arith}
-use lib.ListN.{length}
-use Rattle.aes.specs.declared.KeySize.{KeySize}
 use Rattle.aes.specs.declared.Key.{Key}
 use Rattle.isa.specs.Ranges.{handleLength}
-use Rattle.model.specs.Numbers.{part}
 use Rattle.instructions.proofs.Handles.{three-at-least, handle-128, handle-256}
 use borrow.Author.Needs.{needs}
 use Rattle.instructions.proofs.handle_at.Statement.{statement}
 use Rattle.instructions.proofs.handle_at.Tie as tie
-use Rattle.instructions.proofs.handle_at.Reads as reads
-use Rattle.instructions.proofs.handle_at.Lts as lts
-use Rattle.aes.proofs.word.block_at.Reads as block-at-reads
 
 block-at-requires : tie.Need-block-at-requires
 block-at-requires c κs = search needs

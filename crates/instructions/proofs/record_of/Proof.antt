@@ -10,8 +10,6 @@ use lib.Seq.{ext-getD}
 use Rattle.bits.proofs.Lists.{filled}
 use Rattle.instructions.proofs.record_of.Statement.{statement}
 use Rattle.instructions.proofs.record_of.Tie as tie
-use Rattle.instructions.proofs.record_of.Reads as reads
-use Rattle.instructions.proofs.record_of.Lts as lts
 
 abbrev Inv-loop : tie.InvT-loop
 Inv-loop cpu c₀ i₀ c i = (i ≤ 408) × (length c ≡ 408) × ((k : ℕ) → k < i → getD c k 0 ≡ getD cpu k 0)

@@ -1,0 +1,93 @@
+-- The ways that a call goes, by value: refusal 1, another refusal, or performed.
+-- Assumes nothing.
+use mathlib.Core.Path.{_≡_, _∙_, refl, sym, ap}
+use mathlib.Core.Bool.{Bool, true, false, cond, not, _&&_}
+use mathlib.Core.List.{[]}
+use Prim.Native.Nat.{ℕ}
+use lib.Dec.{eqb, leb}
+use lib.ListN.{replicate}
+use borrow.Author.Tests.{ne-eqb}
+use native.Mathlib.Nat.{suc-ne-zero}
+use Rattle.bits.proofs.Choice.{cond-on, cond-off}
+use Rattle.model.specs.Calls as model
+use Rattle.model.specs.Calls.{PowerOn, Call, settle, sleep, reset}
+use Rattle.model.specs.Validity.{validCount, validFeatures, valid}
+use Rattle.model.specs.Refusals.{View, tests, refusal}
+use Rattle.model.specs.Execution.{fresh, done, powerOn, viewOf, refused, perform, numberOf, call}
+use Rattle.model.specs.Records.{processorLimit, zeroProcessor}
+use Rattle.model.specs.declared.Machine.{Machine}
+use Rattle.model.specs.declared.Platform.{Platform}
+use Rattle.model.proofs.Frames.{call-performed, call-stopped}
+use Rattle.machine.specs.Form.{answerOf, outcomeOf}
+use Rattle.machine.specs.declared.Answer.the-variants.{Done, Refused}
+use Rattle.machine.specs.declared.Outcome.{Outcome}
+
+abbrev pub refusedWith : Machine → ℕ → Outcome
+refusedWith m n = record { machine = m; answer = Refused n; value = 0 }
+
+-- all IWKeys and copy statuses zero, beside a platform
+abbrev pub zeroedWith : ℕ → ℕ → Platform → Machine
+zeroedWith count features f = record { count = count; features = features; processors = replicate processorLimit zeroProcessor; platform = f }
+
+-- the answer of a number that is not 0
+pub answer-refused : (n : ℕ) → (n ≡ 0 → ⊥) → answerOf n ≡ Refused n
+answer-refused n h = cond-off (ne-eqb n 0 h) Done (Refused n)
+
+module _ (m : Machine) (c : Call) where
+  pub stopped-by : (n : ℕ) → numberOf m c ≡ n → (n ≡ 0 → ⊥) → call m c ≡ refused n m c
+  stopped-by n e h = call-stopped m c (λ z. h (sym e ∙ z)) ∙ ap (λ (k : ℕ). refused k m c) e
+
+  pub not-valid : valid m ≡ false → call m c ≡ refused 1 m c
+  not-valid e = stopped-by 1 (cond-off e (refusal (viewOf m) c) 1) (suc-ne-zero 0)
+
+  module _ (v : valid m ≡ true) where
+    pub stopped : (n : ℕ) → refusal (viewOf m) c ≡ n → (n ≡ 0 → ⊥) → call m c ≡ refused n m c
+    stopped n e = stopped-by n (cond-on v (refusal (viewOf m) c) 1 ∙ e)
+
+    pub performed : refusal (viewOf m) c ≡ 0 → call m c ≡ perform m c
+    performed e = call-performed m c (cond-on v (refusal (viewOf m) c) 1 ∙ e)
+
+-- the same by value
+pub outcome-refused : (m : Machine) (c : Call) (n : ℕ) → (n ≡ 0 → ⊥) → call m c ≡ refused n m c → refusedWith m n ≡ outcomeOf (call m c)
+outcome-refused m c n h e =
+    (λ j. record { machine = m; answer = sym (answer-refused n h) j; value = 0 }) ∙ ap outcomeOf (sym e)
+
+-- ---- refusals of calls that have few operands
+
+pub settle-refusal : (v : View) (code : ℕ) → refusal v (settle (record { code = code })) ≡ cond (leb 2 code) 2 0
+unfolding refusal tests
+settle-refusal v code = refl
+
+pub sleep-refusal : (v : View) (code : ℕ) → refusal v (sleep (record { code = code })) ≡ cond (leb 3 code) 2 0
+unfolding refusal tests
+sleep-refusal v code = refl
+
+pub reset-refusal : (v : View) → refusal v reset ≡ 0
+unfolding refusal tests
+reset-refusal v = refl
+
+-- ---- power-on
+
+module _ (p : PowerOn) where
+  power : Bool → model.Outcome
+  power t =
+      cond (eqb (cond (not t) 1 0) 0) (done (fresh (p .count) (p .features)) [] 0)
+      (record { machine = fresh 0 0; answer = record { number = cond (not t) 1 0; cpu = []; buffer = []; value = 0 } })
+
+  pub power-accepted : (validCount (p .count) && validFeatures (p .features)) ≡ true
+      → record { machine = fresh (p .count) (p .features); answer = Done; value = 0 } ≡ outcomeOf (powerOn p)
+  unfolding power
+  power-accepted e = sym (ap (λ (t : Bool). outcomeOf (power t)) e)
+
+  pub power-refused : (validCount (p .count) && validFeatures (p .features)) ≡ false → refusedWith (fresh 0 0) 1 ≡ outcomeOf (powerOn p)
+  unfolding power
+  power-refused e = sym (ap (λ (t : Bool). outcomeOf (power t)) e)
+
+-- ---- done, by value
+
+abbrev pub doneWith : Machine → Outcome
+doneWith m = record { machine = m; answer = Done; value = 0 }
+
+pub outcome-done : (m : Machine) (c : Call) (n : Machine) → valid m ≡ true → refusal (viewOf m) c ≡ 0 → perform m c ≡ done n [] 0
+    → doneWith n ≡ outcomeOf (call m c)
+outcome-done m c n v e p = sym (ap outcomeOf (performed m c v e ∙ p))
