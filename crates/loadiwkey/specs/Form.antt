@@ -1,0 +1,15 @@
+-- What the structs of this crate stand for.
+-- Assumes nothing.
+use mathlib.Core.Bool.{cond}
+use mathlib.Core.List.{List, []}
+use Prim.Native.Nat.{ℕ}
+use Rattle.model.specs.Instructions.{Executed}
+use Rattle.loadiwkey.specs.declared.Random.{Random}
+use Rattle.loadiwkey.specs.declared.Loaded.{Loaded}
+
+-- the scope, "Records": 48 random bytes, "or none for 'not ready'"
+abbrev pub randomData : Random → List ℕ
+randomData r = cond (r .ready) (r .bytes) []
+
+abbrev pub loadedOf : Loaded → Executed
+loadedOf r = record { key = r .key; cpu = r .cpu }

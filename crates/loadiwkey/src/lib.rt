@@ -1,0 +1,109 @@
+// LOADIWKEY (Intel 343965-001US 3.12), over one IWKey and the CPU record.
+ghost use mathlib.Core.Path.{_≡_};
+ghost use lib.ListN.{length};
+ghost use Rattle.bits.specs.Bytes.{xorBytes};
+ghost use Rattle.model.specs.Cpu.{cpuSize};
+ghost use Rattle.model.specs.Forms.{keySource, noBackup};
+ghost use Rattle.model.specs.Instructions as model;
+ghost use Rattle.loadiwkey.specs.Form.{randomData, loadedOf};
+use aes::word::put_block;
+use aes::word::to_bytes;
+use cpu::put_zf;
+use cpu::register;
+use cpu::register_of;
+use cpu::xmm;
+use isa::LoadIwKey;
+use model::IwKey;
+
+// What the random number generator gives; nothing where it is not ready.
+pub struct Random {
+    pub ready: bool,
+    pub bytes: [u8; 48],
+}
+
+pub struct Loaded {
+    pub key: IwKey,
+    pub cpu: [u8; 408],
+}
+
+// EAX bits 4:1.
+fn key_source(cpu: &[u8]) -> u8
+    requires { ⌜ length (now cpu) ≡ cpuSize ⌝ }
+    ensures { λ r. ⌜ r ≡ keySource (now (cpu .entry)) ⌝ }
+{
+    (register(cpu, 0) % 0x1_0000_0000 / 2 % 16) as u8
+}
+
+// EAX bit 0.
+fn no_backup(cpu: &[u8]) -> u8
+    requires { ⌜ length (now cpu) ≡ cpuSize ⌝ }
+    ensures { λ r. ⌜ r ≡ noBackup (now (cpu .entry)) ⌝ }
+{
+    (register(cpu, 0) % 0x1_0000_0000 % 2) as u8
+}
+
+// The encryption key's low half is SRC2 and its high half SRC1; the integrity key is XMM0.
+fn plain_key(l: LoadIwKey, cpu: &[u8]) -> IwKey
+    requires { ⌜ length (now cpu) ≡ cpuSize ⌝ }
+    ensures { λ r. ⌜ r ≡ model.plainKey l (now (cpu .entry)) ⌝ }
+{
+    let src2 = l.src2;
+    let low = xmm(cpu, register_of(src2));
+    let high = xmm(cpu, l.src1);
+    let mut encryption = [0u8; 32];
+    put_block(&mut encryption, 0, low);
+    put_block(&mut encryption, 16, high);
+    IwKey {
+        integrity: to_bytes(xmm(cpu, 0)),
+        encryption,
+        source: key_source(cpu),
+        no_backup: no_backup(cpu),
+    }
+}
+
+// Each byte XORed with the one at its place in `other`.
+fn xor_in(s: &mut [u8], other: &[u8])
+    requires { ⌜ length (now other) ≡ length (now s) ⌝ }
+    ensures { λ _. ⌜ now (s .exit) ≡ xorBytes (now (s .entry)) (now (other .entry)) ⌝ }
+{
+    for i in 0..s.len() {
+        s[i] = s[i] ^ other[i];
+    }
+}
+
+// Random bytes 0 to 31 go into the encryption key, 32 to 47 into the integrity key.
+fn mixed(k: IwKey, random: [u8; 48]) -> IwKey
+    ensures { λ r. ⌜ r ≡ model.mixedWith random k ⌝ }
+{
+    let mut encryption = k.encryption;
+    let mut integrity = k.integrity;
+    xor_in(&mut encryption, &random[0..32]);
+    xor_in(&mut integrity, &random[32..48]);
+    IwKey {
+        integrity,
+        encryption,
+        source: k.source,
+        no_backup: k.no_backup,
+    }
+}
+
+// Not ready at key source 1: ZF is 1 and the IWKey is kept.
+pub fn load(l: LoadIwKey, random: Random, k: IwKey, cpu: [u8; 408]) -> Loaded
+    ensures { λ r. ⌜ loadedOf r ≡ model.load l (randomData random) k cpu ⌝ }
+{
+    let source = key_source(&cpu);
+    let plain = plain_key(l, &cpu);
+    let bytes = random.bytes;
+    let mut c = cpu;
+    if source != 1 {
+        put_zf(&mut c, 0);
+        return Loaded { key: plain, cpu: c };
+    }
+    if random.ready {
+        let key = mixed(plain, bytes);
+        put_zf(&mut c, 0);
+        return Loaded { key, cpu: c };
+    }
+    put_zf(&mut c, 1);
+    Loaded { key: k, cpu: c }
+}
