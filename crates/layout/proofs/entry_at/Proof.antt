@@ -1,9 +1,7 @@
+use Rattle.layout.proofs.Read.{entry-fields}
 use borrow.Author.Needs.{needs}
 use Rattle.layout.proofs.entry_at.Statement.{statement}
 use Rattle.layout.proofs.entry_at.Tie as tie
-use Rattle.layout.proofs.entry_at.Reads as reads
-use Rattle.layout.proofs.entry_at.Lts as lts
-use Rattle.layout.proofs.key_at.Reads as key-at-reads
 
 key-at-requires : tie.Need-key-at-requires
 key-at-requires c κs = search needs
@@ -15,7 +13,9 @@ shared-slice-read-t6 : tie.Need-shared-slice-read-t6
 shared-slice-read-t6 c = search needs
 
 returns : tie.Need-returns
-returns c = ?
+returns c =
+    let args = c .before .before .before .args in
+    entry-fields (args .s .now) (args .at) (c .before .key-at .ensures)
 
 pub entry-at-spec : {M : Type 1} → statement M
 entry-at-spec = tie.close (tie.spec key-at-requires add-t4 shared-slice-read-t6 returns)

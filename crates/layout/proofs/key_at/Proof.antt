@@ -1,10 +1,7 @@
+use Rattle.layout.proofs.Read.{key-read}
 use borrow.Author.Needs.{needs}
 use Rattle.layout.proofs.key_at.Statement.{statement}
 use Rattle.layout.proofs.key_at.Tie as tie
-use Rattle.layout.proofs.key_at.Reads as reads
-use Rattle.layout.proofs.key_at.Lts as lts
-use Rattle.layout.proofs.bytes_16.Reads as bytes-16-reads
-use Rattle.layout.proofs.bytes_32.Reads as bytes-32-reads
 
 bytes-16-requires : tie.Need-bytes-16-requires
 bytes-16-requires c κs = search needs
@@ -28,7 +25,9 @@ shared-slice-read-t10 : tie.Need-shared-slice-read-t10
 shared-slice-read-t10 c = search needs
 
 returns : tie.Need-returns
-returns c = ?
+returns c =
+    let args = c .before .before .before .before .before .args in
+    key-read (args .s .now) (args .at) (c .before .before .before .bytes-16 .ensures) (c .before .before .bytes-32 .ensures)
 
 pub key-at-spec : {M : Type 1} → statement M
 key-at-spec =

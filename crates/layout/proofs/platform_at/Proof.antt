@@ -1,9 +1,7 @@
+use Rattle.layout.proofs.Read.{platform-read}
 use borrow.Author.Needs.{needs}
 use Rattle.layout.proofs.platform_at.Statement.{statement}
 use Rattle.layout.proofs.platform_at.Tie as tie
-use Rattle.layout.proofs.platform_at.Reads as reads
-use Rattle.layout.proofs.platform_at.Lts as lts
-use Rattle.layout.proofs.slot_at.Reads as slot-at-reads
 
 slot-at-requires : tie.Need-slot-at-requires
 slot-at-requires c κs = search needs
@@ -39,7 +37,9 @@ shared-slice-read-t16 : tie.Need-shared-slice-read-t16
 shared-slice-read-t16 c = search needs
 
 returns : tie.Need-returns
-returns c = ?
+returns c =
+    let args = c .before .before .before .before .before .before .before .args in
+    platform-read (args .s .now) (args .at) (c .before .before .before .before .before .slot-at .ensures) (c .before .before .before .before .slot-at2 .ensures)
 
 pub platform-at-spec : {M : Type 1} → statement M
 platform-at-spec =

@@ -1,9 +1,7 @@
+use Rattle.layout.proofs.Write.{entry-length, entry-written}
 use borrow.Author.Needs.{needs}
 use Rattle.layout.proofs.put_entry.Statement.{statement}
 use Rattle.layout.proofs.put_entry.Tie as tie
-use Rattle.layout.proofs.put_entry.Reads as reads
-use Rattle.layout.proofs.put_entry.Lts as lts
-use Rattle.layout.proofs.put_key.Reads as put-key-reads
 
 put-key-requires : tie.Need-put-key-requires
 put-key-requires c κs = search needs
@@ -18,7 +16,10 @@ same-length : tie.Need-same-length
 same-length c = search needs
 
 returns : tie.Need-returns
-returns c = ?
+returns c =
+    let args = c .before .before .before .before .before .before .args in
+    let k = c .before .before .put-key .ensures in
+    (entry-written (args .s .now) (args .at) (args .e) (k .1) (k .0), entry-length (args .e) (k .1))
 
 pub put-entry-spec : {M : Type 1} → statement M
 put-entry-spec = tie.close (tie.spec put-key-requires add-s slice-write-s same-length returns)
