@@ -1,10 +1,8 @@
+use lib.ListN.{getD}
+use Rattle.model.specs.Layout.{machineAt}
 use borrow.Author.Needs.{needs}
 use Rattle.layout.proofs.read_machine.Statement.{statement}
 use Rattle.layout.proofs.read_machine.Tie as tie
-use Rattle.layout.proofs.read_machine.Reads as reads
-use Rattle.layout.proofs.read_machine.Lts as lts
-use Rattle.layout.proofs.entries_at.Reads as entries-at-reads
-use Rattle.layout.proofs.platform_at.Reads as platform-at-reads
 
 entries-at-requires : tie.Need-entries-at-requires
 entries-at-requires c κs = search needs
@@ -19,7 +17,16 @@ shared-slice-read-t7 : tie.Need-shared-slice-read-t7
 shared-slice-read-t7 c = search needs
 
 returns : tie.Need-returns
-returns c = ?
+unfolding machineAt
+returns c =
+    let s = c .before .before .before .before .before .args .s .now in
+    λ j.
+    record {
+      count = getD s 0 0;
+      features = getD s 1 0;
+      processors = c .before .before .before .entries-at .ensures j;
+      platform = c .before .before .platform-at .ensures j;
+    }
 
 pub read-machine-spec : {M : Type 1} → statement M
 read-machine-spec =
