@@ -1,0 +1,204 @@
+// The scope, "Records": "A machine record is 924 bytes". It is read and written at every call that gets so far, so bytes go in runs of a
+// fixed length, which are compiled to wide moves.
+ghost use mathlib.Core.Path.{_≡_};
+ghost use Prim.Native.Nat.{_+_, _*_, _≤_};
+ghost use lib.ListN.{length, drop};
+ghost use lib.Seq.{sets};
+ghost use Rattle.model.specs.Numbers.{part};
+ghost use Rattle.model.specs.Records.{processorLimit};
+ghost use Rattle.model.specs.Layout as model;
+use model::IwKey;
+use model::Machine;
+use model::Platform;
+use model::Processor;
+use model::Slot;
+
+// ---- reading
+
+fn bytes_16(s: &[u8], at: usize) -> [u8; 16]
+    requires { ⌜ at + 16 ≤ length (now s) ⌝ }
+    ensures { λ r. ⌜ r ≡ part 16 at (now (s .entry)) ⌝ }
+{
+    let mut a = [0u8; 16];
+    for i in 0..16usize {
+        a[i] = s[at + i];
+    }
+    a
+}
+
+fn bytes_32(s: &[u8], at: usize) -> [u8; 32]
+    requires { ⌜ at + 32 ≤ length (now s) ⌝ }
+    ensures { λ r. ⌜ r ≡ part 32 at (now (s .entry)) ⌝ }
+{
+    let mut a = [0u8; 32];
+    for i in 0..32usize {
+        a[i] = s[at + i];
+    }
+    a
+}
+
+fn key_at(s: &[u8], at: usize) -> IwKey
+    requires { ⌜ at + model.keySize ≤ length (now s) ⌝ }
+    ensures { λ r. ⌜ r ≡ model.keyAt (drop at (now (s .entry))) ⌝ }
+{
+    let integrity = bytes_16(s, at);
+    let encryption = bytes_32(s, at + 16);
+    IwKey {
+        integrity,
+        encryption,
+        source: s[at + 48],
+        no_backup: s[at + 49],
+    }
+}
+
+fn entry_at(s: &[u8], at: usize) -> Processor
+    requires { ⌜ at + model.entrySize ≤ length (now s) ⌝ }
+    ensures { λ r. ⌜ r ≡ model.entryAt (drop at (now (s .entry))) ⌝ }
+{
+    let key = key_at(s, at);
+    Processor {
+        key,
+        copy_status: s[at + 50],
+    }
+}
+
+fn entries_at(s: &[u8], at: usize) -> [Processor; 16]
+    requires { ⌜ at + processorLimit * model.entrySize ≤ length (now s) ⌝ }
+    ensures { λ r. ⌜ r ≡ model.entriesAt processorLimit (drop at (now (s .entry))) ⌝ }
+{
+    let first = entry_at(s, at);
+    let mut l = [first; 16];
+    for i in 0..16usize {
+        let e = entry_at(s, at + i * 51);
+        l[i] = e;
+    }
+    l
+}
+
+fn slot_at(s: &[u8], at: usize) -> Slot
+    requires { ⌜ at + model.slotSize ≤ length (now s) ⌝ }
+    ensures { λ r. ⌜ r ≡ model.slotAt (drop at (now (s .entry))) ⌝ }
+{
+    let key = key_at(s, at + 1);
+    Slot {
+        present: s[at],
+        key,
+    }
+}
+
+fn platform_at(s: &[u8], at: usize) -> Platform
+    requires { ⌜ at + model.platformSize ≤ length (now s) ⌝ }
+    ensures { λ r. ⌜ r ≡ model.platformAt (drop at (now (s .entry))) ⌝ }
+{
+    let backup = slot_at(s, at);
+    let store = slot_at(s, at + 51);
+    Platform {
+        backup,
+        store,
+        pending: s[at + 102],
+        valid: s[at + 103],
+        error: s[at + 104],
+        consumed: s[at + 105],
+    }
+}
+
+pub fn read_machine(s: &[u8]) -> Machine
+    requires { ⌜ length (now s) ≡ model.machineSize ⌝ }
+    ensures { λ r. ⌜ r ≡ model.machineAt (now (s .entry)) ⌝ }
+{
+    let processors = entries_at(s, 2);
+    let platform = platform_at(s, 818);
+    Machine {
+        count: s[0],
+        features: s[1],
+        processors,
+        platform,
+    }
+}
+
+// ---- writing
+
+fn put_16(s: &mut [u8], at: usize, a: [u8; 16])
+    requires { ⌜ at + 16 ≤ length (now s) ⌝ }
+    ensures { λ _. ⌜ now (s .exit) ≡ sets (now (s .entry)) at a ⌝ }
+{
+    for i in 0..16usize {
+        s[at + i] = a[i];
+    }
+}
+
+fn put_32(s: &mut [u8], at: usize, a: [u8; 32])
+    requires { ⌜ at + 32 ≤ length (now s) ⌝ }
+    ensures { λ _. ⌜ now (s .exit) ≡ sets (now (s .entry)) at a ⌝ }
+{
+    for i in 0..32usize {
+        s[at + i] = a[i];
+    }
+}
+
+// From here on each function also says how many bytes it wrote, so that its caller knows where the next run begins.
+fn put_key(s: &mut [u8], at: usize, k: IwKey)
+    requires { ⌜ at + model.keySize ≤ length (now s) ⌝ }
+    ensures { λ _. ⌜ (now (s .exit) ≡ sets (now (s .entry)) at (model.keyBytes k)) × (length (model.keyBytes k) ≡ model.keySize) ⌝ }
+{
+    let integrity = k.integrity;
+    let encryption = k.encryption;
+    put_16(s, at, integrity);
+    put_32(s, at + 16, encryption);
+    s[at + 48] = k.source;
+    s[at + 49] = k.no_backup;
+}
+
+fn put_entry(s: &mut [u8], at: usize, e: Processor)
+    requires { ⌜ at + model.entrySize ≤ length (now s) ⌝ }
+    ensures { λ _. ⌜ (now (s .exit) ≡ sets (now (s .entry)) at (model.entryBytes e)) × (length (model.entryBytes e) ≡ model.entrySize) ⌝ }
+{
+    let key = e.key;
+    put_key(s, at, key);
+    s[at + 50] = e.copy_status;
+}
+
+fn put_entries(s: &mut [u8], at: usize, l: [Processor; 16])
+    requires { ⌜ at + processorLimit * model.entrySize ≤ length (now s) ⌝ }
+    ensures { λ _. ⌜ (now (s .exit) ≡ sets (now (s .entry)) at (model.entriesBytes l)) × (length (model.entriesBytes l) ≡ processorLimit * model.entrySize) ⌝ }
+{
+    for i in 0..16usize {
+        let e = l[i];
+        put_entry(s, at + i * 51, e);
+    }
+}
+
+fn put_slot(s: &mut [u8], at: usize, t: Slot)
+    requires { ⌜ at + model.slotSize ≤ length (now s) ⌝ }
+    ensures { λ _. ⌜ (now (s .exit) ≡ sets (now (s .entry)) at (model.slotBytes t)) × (length (model.slotBytes t) ≡ model.slotSize) ⌝ }
+{
+    let key = t.key;
+    s[at] = t.present;
+    put_key(s, at + 1, key);
+}
+
+fn put_platform(s: &mut [u8], at: usize, f: Platform)
+    requires { ⌜ at + model.platformSize ≤ length (now s) ⌝ }
+    ensures { λ _. ⌜ (now (s .exit) ≡ sets (now (s .entry)) at (model.platformBytes f)) × (length (model.platformBytes f) ≡ model.platformSize) ⌝ }
+{
+    let backup = f.backup;
+    let store = f.store;
+    put_slot(s, at, backup);
+    put_slot(s, at + 51, store);
+    s[at + 102] = f.pending;
+    s[at + 103] = f.valid;
+    s[at + 104] = f.error;
+    s[at + 105] = f.consumed;
+}
+
+pub fn write_machine(s: &mut [u8], m: Machine)
+    requires { ⌜ length (now s) ≡ model.machineSize ⌝ }
+    ensures { λ _. ⌜ now (s .exit) ≡ model.machineBytes m ⌝ }
+{
+    let processors = m.processors;
+    let platform = m.platform;
+    s[0] = m.count;
+    s[1] = m.features;
+    put_entries(s, 2, processors);
+    put_platform(s, 818, platform);
+}
