@@ -1,21 +1,40 @@
 // One instruction, over one IWKey, the CPU record, memory and random data.
 ghost use mathlib.Core.Path.{_≡_};
-ghost use mathlib.Core.Bool.{true};
+ghost use mathlib.Core.Option.{some};
 ghost use Prim.Native.Nat.{_+_, _≤_};
 ghost use lib.ListN.{length};
 ghost use Rattle.isa.specs.Ranges.{handleLength};
 ghost use Rattle.keywrap.specs.Form.{handleBytes};
 ghost use Rattle.model.specs.Numbers.{part};
 ghost use Rattle.model.specs.Cpu.{cpuSize};
+ghost use Rattle.model.specs.Forms as forms;
 ghost use Rattle.model.specs.Instructions as model;
-use aes::Block;
+ghost use Rattle.loadiwkey.specs.Form.{randomData};
+ghost use Rattle.instructions.specs.Form.{executedOf};
 use aes::Key;
 use aes::KeySize;
 use aes::word::block_at;
+use aeskl::use_single;
+use aeskl::use_wide;
 use cpu::put_rip;
 use cpu::rip;
+use encodekey::encode;
+use isa::EncodeKey;
+use isa::Instruction;
+use isa::Use;
+use isa::WideUse;
 use keywrap::Handle;
+use loadiwkey::Random;
+use loadiwkey::load;
+use model::IwKey;
+use refusals::handle_address;
 use std::num::wrapping_add_u64;
+
+// An IWKey and a CPU record after an instruction.
+pub struct Executed {
+    pub key: IwKey,
+    pub cpu: [u8; 408],
+}
 
 // The bytes of a CPU record, once its length is known.
 pub fn record_of(cpu: &[u8]) -> [u8; 408]
@@ -62,4 +81,71 @@ pub fn advance(cpu: [u8; 408], bytes: u64) -> [u8; 408]
     let mut c = cpu;
     put_rip(&mut c, next);
     c
+}
+
+// ---- the instructions
+
+// The four forms on one block.
+fn single(u: Use, bytes: u64, memory: &[u8], k: IwKey, cpu: [u8; 408]) -> [u8; 408]
+    requires { ⌜ forms.handleAddress cpu bytes (u .handle) .linear + handleLength (u .size) ≤ length (now memory) ⌝ }
+    ensures { λ r. ⌜ r ≡ model.used (now (memory .entry)) bytes (forms.single u) k cpu ⌝ }
+{
+    let direction = u.direction;
+    let size = u.size;
+    let operand = u.handle;
+    let a = handle_address(&cpu, bytes, operand);
+    let h = handle_at(memory, a.linear as usize, size);
+    use_single(direction, size, u.block, k, h, cpu)
+}
+
+// The four wide forms.
+fn wide(u: WideUse, bytes: u64, memory: &[u8], k: IwKey, cpu: [u8; 408]) -> [u8; 408]
+    requires { ⌜ forms.handleAddress cpu bytes (u .handle) .linear + handleLength (u .size) ≤ length (now memory) ⌝ }
+    ensures { λ r. ⌜ r ≡ model.used (now (memory .entry)) bytes (forms.wide u) k cpu ⌝ }
+{
+    let direction = u.direction;
+    let size = u.size;
+    let operand = u.handle;
+    let a = handle_address(&cpu, bytes, operand);
+    let h = handle_at(memory, a.linear as usize, size);
+    use_wide(direction, size, k, h, cpu)
+}
+
+fn encoded(e: EncodeKey, k: IwKey, cpu: [u8; 408]) -> Executed
+    ensures { λ r. ⌜ executedOf r ≡ record { key = k; cpu = model.encoded e k cpu } ⌝ }
+{
+    let c = encode(e, k, cpu);
+    Executed { key: k, cpu: c }
+}
+
+// An instruction that no refusal stops: a use's handle lies in memory.
+pub fn execute(
+    what: Instruction,
+    bytes: u64,
+    memory: &[u8],
+    random: Random,
+    k: IwKey,
+    cpu: [u8; 408],
+) -> Executed
+    requires { ⌜ ((f : forms.Form) → forms.formOf what ≡ some f → forms.handleAddress cpu bytes (f .handle) .linear + handleLength (f .size) ≤ length (now memory)) ⌝ }
+    ensures { λ r. ⌜ executedOf r ≡ model.execute (now (memory .entry)) (randomData random) what bytes k cpu ⌝ }
+{
+    match what {
+        Instruction::Use(u) => {
+            let c = single(u, bytes, memory, k, cpu);
+            Executed { key: k, cpu: c }
+        }
+        Instruction::WideUse(u) => {
+            let c = wide(u, bytes, memory, k, cpu);
+            Executed { key: k, cpu: c }
+        }
+        Instruction::LoadIwKey(l) => {
+            let r = load(l, random, k, cpu);
+            Executed {
+                key: r.key,
+                cpu: r.cpu,
+            }
+        }
+        Instruction::EncodeKey(e) => encoded(e, k, cpu),
+    }
 }

@@ -4,7 +4,7 @@ use mathlib.Core.Path.{_≡_, _∙_, refl, sym, ap, subst}
 use mathlib.Core.Bool.{Bool, true, false, not, _&&_}
 use mathlib.Core.List.{List, [], _∷_, _++_, append-assoc}
 use mathlib.Core.Option.{Option, none, some, Option·map, Option·some-injective, Option·none-ne-some}
-use Prim.Native.Nat.{ℕ, zero, _+_, _^_, _<_}
+use Prim.Native.Nat.{ℕ, zero, _+_, _^_, _<_, _≤_}
 use native.Mathlib.Omega.{arith}
 use lib.Dec.{T, eqb, ltb, lt→ltb}
 use lib.ListN.{length, take}
@@ -121,17 +121,19 @@ unfolding effectiveAddress
 address-lt cpu bytes (operand.Register n) = omega arith
 address-lt cpu bytes (operand.Memory p) = omega arith
 
-read-length : (v : View) (s : StepCall) → refusal v (step s) ≡ 0 → (what : Instruction) (lock : Bool) (bytes : ℕ) (f : Form)
-    → decode (s .string) ≡ decoded.Found what lock bytes → _≡_ {A = Option Form} (formOf what) (some f)
-    → length (handleRead (s .memory) (s .cpu) bytes f) ≡ handleLength (f .size)
-read-length v s a what lock bytes f r q =
-    let at = handleAddress (s .cpu) bytes (f .handle) .linear in
-    let n = handleLength (f .size) in
-    let few = memory-length v s a in
-    let inside : ltb (length (s .memory)) (at + n) ≡ false =
-    sym (outside-ends (length (s .memory)) at n (omega arith) (address-lt (s .cpu) bytes (f .handle)) (length-some (f .size)))
-    ∙ handle-inside v s a what lock bytes f r q in
-    part-length (s .memory) n at (ltb-false (length (s .memory)) (at + n) inside)
+module _ (v : View) (s : StepCall) (a : refusal v (step s) ≡ 0) (what : Instruction) (lock : Bool) (bytes : ℕ) (f : Form)
+    (r : decode (s .string) ≡ decoded.Found what lock bytes) (q : _≡_ {A = Option Form} (formOf what) (some f)) where
+  pub handle-fits : handleAddress (s .cpu) bytes (f .handle) .linear + handleLength (f .size) ≤ length (s .memory)
+  handle-fits =
+      let at = handleAddress (s .cpu) bytes (f .handle) .linear in
+      let n = handleLength (f .size) in
+      let few = memory-length v s a in
+      ltb-false (length (s .memory)) (at + n)
+      (sym (outside-ends (length (s .memory)) at n (omega arith) (address-lt (s .cpu) bytes (f .handle)) (length-some (f .size)))
+      ∙ handle-inside v s a what lock bytes f r q)
+
+  read-length : length (handleRead (s .memory) (s .cpu) bytes f) ≡ handleLength (f .size)
+  read-length = part-length (s .memory) (handleLength (f .size)) (handleAddress (s .cpu) bytes (f .handle) .linear) handle-fits
 
 -- ---- a use of an encoded handle
 
