@@ -96,9 +96,9 @@ fn cipher_blocks(direction: Direction, size: KeySize, key: Key, bytes: &mut [u8]
 fn failed(cpu: [u8; 408]) -> [u8; 408]
     ensures { λ r. ⌜ r ≡ withZf 1 cpu ⌝ }
 {
-    let mut c = cpu;
-    put_zf(&mut c, 1);
-    c
+    let mut kept = cpu;
+    put_zf(&mut kept, 1);
+    kept
 }
 
 // The block goes back to its register.
