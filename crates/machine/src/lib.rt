@@ -2,8 +2,9 @@
 ghost use mathlib.Core.Path.{_≡_};
 ghost use Rattle.model.specs.Calls.{settle, sleep, reset};
 ghost use Rattle.model.specs.Execution as model;
-ghost use Rattle.model.specs.Records.{processorLimit, zeroKey, zeroProcessor};
-ghost use lib.ListN.{replicate};
+ghost use Rattle.model.specs.Records.{processorLimit, zeroKey, zeroProcessor, noProcessor, withProcessors};
+ghost use Prim.Native.Nat.{_%_};
+ghost use lib.ListN.{getD, set, replicate};
 ghost use Rattle.machine.specs.Form.{outcomeOf};
 ghost use Rattle.machine.specs.declared.Answer.the-variants.{Done, Refused};
 use model::IwKey;
@@ -101,6 +102,23 @@ fn done(m: Machine) -> Outcome
         answer: Answer::Done,
         value: 0,
     }
+}
+
+// Processor p; every caller's p is below the count, so that the remainder is p itself.
+fn processor_at(l: [Processor; 16], p: u8) -> Processor
+    ensures { λ r. ⌜ r ≡ getD l (p % 16) noProcessor ⌝ }
+{
+    l[(p % 16) as usize]
+}
+
+fn with_processor(m: Machine, l: [Processor; 16], p: u8, e: Processor) -> Machine
+    ensures { λ r. ⌜ r ≡ withProcessors (set l (p % 16) e) m ⌝ }
+{
+    let mut k = l;
+    k[(p % 16) as usize] = e;
+    let mut n = m;
+    n.processors = k;
+    n
 }
 
 pub fn power_on(count: u8, features: u8) -> Outcome

@@ -1,0 +1,43 @@
+use mathlib.Core.Path.{_∙_, ap}
+use Rattle.model.specs.Calls as model
+use Rattle.model.specs.Execution.{call}
+use Rattle.model.specs.declared.Machine.{Machine}
+use Rattle.machine.specs.Form.{outcomeOf}
+use Rattle.keylocker.proofs.Finishing.{short-block, called-of}
+use borrow.Author.Needs.{needs}
+use Rattle.keylocker.proofs.keylocker_sleep.Statement.{statement}
+use Rattle.keylocker.proofs.keylocker_sleep.Tie as tie
+use Rattle.keylocker.proofs.keylocker_sleep.Reads as reads
+use Rattle.keylocker.proofs.keylocker_sleep.Lts as lts
+use Rattle.keylocker.proofs.finish.Reads as finish-reads
+use Rattle.layout.proofs.read_machine.Reads as read-machine-reads
+use Rattle.machine.proofs.sleep.Reads as sleep-reads
+
+returns : tie.Need-returns
+returns c =
+    let a = c .before .before .args in
+    short-block (a .machine .now) (model.sleep (record { code = a .code })) (c .if1 .taken)
+
+read-machine-requires : tie.Need-read-machine-requires
+read-machine-requires c κs = search needs
+
+sleep-requires : tie.Need-sleep-requires
+sleep-requires c κs = search needs
+
+finish-requires : tie.Need-finish-requires
+finish-requires c κs = search needs
+
+same-length : tie.Need-same-length
+same-length c = search needs
+
+returns-2 : tie.Need-returns-2
+returns-2 c =
+    let a = c .before .before .before .before .before .before .before .before .before .args in
+    c .before .before .finish .ensures
+    ∙ called-of (a .machine .now) (model.sleep (record { code = a .code })) (c .before .before .before .sleep .result) (search needs)
+    (c .before .before .before .sleep .ensures ∙ ap (λ (m : Machine). outcomeOf (call m (model.sleep (record { code = a .code })))) (c .before .before .before .before .before .read-machine .ensures))
+
+pub keylocker-sleep-spec : {M : Type 1} → statement M
+keylocker-sleep-spec =
+    tie.close
+    (tie.spec returns read-machine-requires sleep-requires finish-requires same-length returns-2)

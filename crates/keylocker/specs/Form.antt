@@ -1,0 +1,30 @@
+-- What a C call gives: its number, and what it leaves in the lent bytes.
+-- Assumes nothing.
+use mathlib.Core.List.{List}
+use Prim.Native.Nat.{ℕ}
+use Rattle.model.specs.Lent.{Lent}
+use Rattle.model.specs.Layout.{machineBytes}
+use Rattle.model.specs.declared.Machine.{Machine}
+use Rattle.machine.specs.declared.Answer.{Answer}
+use Rattle.machine.specs.declared.Answer.the-variants.{Done, Refused}
+use Rattle.machine.specs.declared.Outcome.{Outcome}
+
+-- the number that is returned, and the machine's bytes at exit
+pub record Called : Type 0 where
+  pub number : ℕ
+  pub block : List ℕ
+
+abbrev pub called : ℕ → List ℕ → Called
+called n b = record { number = n; block = b }
+
+-- a call on a lent block
+abbrev pub calledOf : Lent → Called
+calledOf l = called (l .answer .number) (l .block)
+
+-- the machine of an outcome goes back into its bytes, unless the call was refused
+abbrev pub answered : List ℕ → Machine → Answer → Called
+answered block m Done = called 0 (machineBytes m)
+answered block m (Refused n) = called n block
+
+abbrev pub finished : List ℕ → Outcome → Called
+finished block o = answered block (o .machine) (o .answer)
