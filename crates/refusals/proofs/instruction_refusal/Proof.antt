@@ -1,0 +1,81 @@
+use mathlib.Core.Path.{_∙_, sym, ap}
+use mathlib.Core.Bool.{true, false}
+use Rattle.model.specs.Refusals.{noMath}
+use Rattle.refusals.proofs.Ways.{told-opcode, instruction-10, instruction-11, instruction-rest}
+use borrow.Author.Needs.{needs}
+use Rattle.refusals.proofs.instruction_refusal.Statement.{statement}
+use Rattle.refusals.proofs.instruction_refusal.Tie as tie
+
+control-requires : tie.Need-control-requires
+control-requires c κs = search needs
+
+needs-firmware-requires : tie.Need-needs-firmware-requires
+needs-firmware-requires c κs = search needs
+
+needs-wide-requires : tie.Need-needs-wide-requires
+needs-wide-requires c κs = search needs
+
+invalid-opcode-requires : tie.Need-invalid-opcode-requires
+invalid-opcode-requires c κs = search needs
+
+returns : tie.Need-returns
+returns c =
+    let st = c .before .before .before .before .before .before in
+    let features = st .args .features in
+    let cpu = st .args .cpu .now in
+    let memory = st .args .memory in
+    let what = st .args .what in
+    let lock = st .args .lock in
+    let bytes = st .args .bytes in
+    let opcode =
+    told-opcode features cpu memory what lock bytes (c .before .invalid-opcode .result) true (c .before .before .before .needs-firmware .result) (c .before .before .needs-wide .result) (c .before .before .before .before .control .result)
+    (c .before .invalid-opcode .ensures) (c .before .before .before .before .control .ensures) (c .before .before .before .needs-firmware .ensures) (c .before .before .needs-wide .ensures) (c .if1 .taken) in
+    instruction-10 features cpu memory what lock bytes opcode
+
+no-math-requires : tie.Need-no-math-requires
+no-math-requires c κs = search needs
+
+returns-2 : tie.Need-returns-2
+returns-2 c =
+    let st = c .before .before .before .before .before .before .before .before in
+    let features = st .args .features in
+    let cpu = st .args .cpu .now in
+    let memory = st .args .memory in
+    let what = st .args .what in
+    let lock = st .args .lock in
+    let bytes = st .args .bytes in
+    let opcode =
+    told-opcode features cpu memory what lock bytes (c .before .before .before .invalid-opcode .result) false (c .before .before .before .before .before .needs-firmware .result) (c .before .before .before .before .needs-wide .result) (c .before .before .before .before .before .before .control .result)
+    (c .before .before .before .invalid-opcode .ensures) (c .before .before .before .before .before .before .control .ensures) (c .before .before .before .before .before .needs-firmware .ensures) (c .before .before .before .before .needs-wide .ensures) (c .before .before .if1 .left) in
+    instruction-11 features cpu memory what lock bytes opcode (sym (c .before .no-math .ensures ∙ ap noMath (c .before .before .before .before .before .before .control .ensures)) ∙ c .if2 .taken)
+
+operand-refusal-requires : tie.Need-operand-refusal-requires
+operand-refusal-requires c κs = search needs
+
+returns-3 : tie.Need-returns-3
+returns-3 c =
+    let st = c .before .before .before .before .before .before .before .before .before in
+    let features = st .args .features in
+    let cpu = st .args .cpu .now in
+    let memory = st .args .memory in
+    let what = st .args .what in
+    let lock = st .args .lock in
+    let bytes = st .args .bytes in
+    let opcode =
+    told-opcode features cpu memory what lock bytes (c .before .before .before .before .invalid-opcode .result) false (c .before .before .before .before .before .before .needs-firmware .result) (c .before .before .before .before .before .needs-wide .result) (c .before .before .before .before .before .before .before .control .result)
+    (c .before .before .before .before .invalid-opcode .ensures) (c .before .before .before .before .before .before .before .control .ensures) (c .before .before .before .before .before .before .needs-firmware .ensures) (c .before .before .before .before .before .needs-wide .ensures) (c .before .before .before .if1 .left) in
+    instruction-rest features cpu memory what lock bytes (c .operand-refusal .result) opcode (sym (c .before .before .no-math .ensures ∙ ap noMath (c .before .before .before .before .before .before .before .control .ensures)) ∙ c .before .if2 .left) (c .operand-refusal .ensures)
+
+pub instruction-refusal-spec : {M : Type 1} → statement M
+instruction-refusal-spec =
+    tie.close
+    (tie.spec
+    control-requires
+    needs-firmware-requires
+    needs-wide-requires
+    invalid-opcode-requires
+    returns
+    no-math-requires
+    returns-2
+    operand-refusal-requires
+    returns-3)

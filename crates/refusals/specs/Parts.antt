@@ -1,0 +1,48 @@
+-- The model's list of tests in parts, each over what it depends on.
+-- Assumes nothing.
+use mathlib.Core.Bool.{Bool, true, false, not, _&&_, _||_}
+use mathlib.Core.List.{List, [], _∷_}
+use Prim.Native.Nat.{ℕ}
+use lib.Dec.{ltb}
+use Rattle.aes.specs.declared.KeySize.{KeySize}
+use Rattle.isa.specs.Ranges.{handleLength, someNotCanonical, someOutside}
+use Rattle.isa.specs.declared.Address.{Address}
+use Rattle.isa.specs.declared.Instruction.{Instruction}
+use Rattle.isa.specs.declared.Segment.{Segment}
+use Rattle.isa.specs.declared.Segment.the-variants.{Data, Stack}
+use Rattle.model.specs.Cpu.{cpl, control, zeroFieldSet}
+use Rattle.model.specs.Forms.{formOf}
+use Rattle.model.specs.Refusals.{Test, test, of, memoryLimit, randomLength, needsFirmware, needsWide, invalidOpcode, noMath, inSegment, canonicalFault, instructionFault, outside}
+
+-- which test a byte that is not canonical meets
+abbrev pub segmentNumber : Segment → ℕ
+segmentNumber Data = 12
+segmentNumber Stack = 13
+
+-- 12 to 14 for a handle at an address
+abbrev pub handleTests : ℕ → Address → KeySize → List Test
+handleTests memory a size =
+    test 12 (inSegment false (a .segment) && someNotCanonical (a .linear) (handleLength size))
+    ∷ test 13 (inSegment true (a .segment) && someNotCanonical (a .linear) (handleLength size))
+    ∷ test 14 (someOutside memory (a .linear) (handleLength size))
+    ∷ []
+
+-- 12 to 14 for an instruction
+abbrev pub operandTests : ℕ → List ℕ → ℕ → Instruction → ℕ → List Test
+operandTests features cpu memory what bytes =
+    test 12 (instructionFault features cpu what bytes)
+    ∷ test 13 (of (canonicalFault true cpu bytes) (formOf what))
+    ∷ test 14 (of (outside memory cpu bytes) (formOf what))
+    ∷ []
+
+-- 10 to 14
+abbrev pub instructionTests : ℕ → List ℕ → ℕ → Instruction → Bool → ℕ → List Test
+instructionTests features cpu memory what lock bytes =
+    test 10 (invalidOpcode features (control cpu) lock (needsFirmware what) (needsWide what))
+    ∷ test 11 (noMath (control cpu))
+    ∷ operandTests features cpu memory what bytes
+
+-- 5 to 7, over the lengths of guest memory and random data
+abbrev pub recordTests : List ℕ → ℕ → ℕ → List Test
+recordTests cpu memory random =
+    test 5 (ltb 3 (cpl cpu) || zeroFieldSet cpu) ∷ test 6 (ltb memoryLimit memory) ∷ test 7 (not (randomLength random)) ∷ []

@@ -1,0 +1,339 @@
+// The scope, "Turned back": the tests 2 to 14, in its order. Each function gives the number of the first of its tests that holds, or 0.
+ghost use mathlib.Core.Path.{_≡_};
+ghost use mathlib.Core.Bool.{cond};
+ghost use Prim.Native.Nat.{_<_};
+ghost use lib.Dec.{leb, ltb};
+ghost use lib.ListN.{length};
+ghost use Rattle.isa.specs.Decode.{decode};
+ghost use Rattle.model.specs.Numbers as model;
+ghost use Rattle.model.specs.Cpu.{cpuSize};
+ghost use Rattle.model.specs.Forms.{handleAddress};
+ghost use Rattle.model.specs.Calls.{StepCall, step, read, write, settle, sleep};
+ghost use Rattle.model.specs.Refusals.{View, first, refusal, needsFirmware, needsWide, invalidOpcode, noMath, loadFault, encodeFault, noRegisters};
+ghost use Rattle.refusals.specs.Parts.{segmentNumber, handleTests, operandTests, instructionTests, recordTests};
+use address::effective_address;
+use address::some_not_canonical;
+use address::some_outside;
+use aes::KeySize;
+use cpu::control;
+use cpu::cpl;
+use cpu::register;
+use cpu::register_of;
+use cpu::registers;
+use cpu::rip;
+use cpu::zero_field_set;
+use isa::Address;
+use isa::Decoded;
+use isa::Instruction;
+use isa::Operand;
+use isa::Segment;
+
+// Bits of the feature byte.
+const KEY_LOCKER: u8 = 0;
+
+const FIRMWARE_ENABLED: u8 = 1;
+
+const WIDE_FORMS: u8 = 2;
+
+const BACKUP_REGISTERS: u8 = 3;
+
+const NO_BACKUP: u8 = 4;
+
+const RANDOM_SOURCE: u8 = 5;
+
+// Control bits of the CPU record.
+const CR4_KL: u8 = 0;
+
+const CR4_OSFXSR: u8 = 1;
+
+const CR0_EM: u8 = 2;
+
+const CR0_TS: u8 = 3;
+
+fn bit(i: u8, x: u8) -> bool
+    requires { ⌜ i < 8 ⌝ }
+    ensures { λ r. ⌜ r ≡ model.bit i x ⌝ }
+{
+    (x >> i) % 2 == 1
+}
+
+// ---- 10 and 11
+
+pub fn needs_firmware(what: Instruction) -> bool
+    ensures { λ r. ⌜ r ≡ needsFirmware what ⌝ }
+{
+    match what {
+        Instruction::Use(_) => true,
+        Instruction::WideUse(_) => true,
+        Instruction::LoadIwKey(_) => false,
+        Instruction::EncodeKey(_) => true,
+    }
+}
+
+pub fn needs_wide(what: Instruction) -> bool
+    ensures { λ r. ⌜ r ≡ needsWide what ⌝ }
+{
+    match what {
+        Instruction::Use(_) => false,
+        Instruction::WideUse(_) => true,
+        Instruction::LoadIwKey(_) => false,
+        Instruction::EncodeKey(_) => false,
+    }
+}
+
+// 10, #UD.
+pub fn invalid_opcode(features: u8, control: u8, lock: bool, firmware: bool, wide: bool) -> bool
+    ensures { λ r. ⌜ r ≡ invalidOpcode features control lock firmware wide ⌝ }
+{
+    lock
+        | !bit(KEY_LOCKER, features)
+        | !bit(CR4_KL, control)
+        | bit(CR0_EM, control)
+        | !bit(CR4_OSFXSR, control)
+        | (firmware & !bit(FIRMWARE_ENABLED, features))
+        | (wide & !bit(WIDE_FORMS, features))
+}
+
+// 11, #NM.
+pub fn no_math(control: u8) -> bool
+    ensures { λ r. ⌜ r ≡ noMath control ⌝ }
+{
+    bit(CR0_TS, control)
+}
+
+// ---- 12 to 14
+
+// What LOADIWKEY has of 12.
+pub fn load_fault(features: u8, cpu: &[u8]) -> bool
+    requires { ⌜ length (now cpu) ≡ cpuSize ⌝ }
+    ensures { λ r. ⌜ r ≡ loadFault features (now (cpu .entry)) ⌝ }
+{
+    let eax = register(cpu, 0) % 0x1_0000_0000;
+    (0 < cpl(cpu))
+        | (1 < eax / 2 % 16)
+        | !(eax / 32 == 0)
+        | ((eax % 2 == 1) & !bit(NO_BACKUP, features))
+        | ((eax / 2 % 16 == 1) & !bit(RANDOM_SOURCE, features))
+}
+
+// What ENCODEKEY has of 12: source bits 31:3. Its CPL is free: whatever the restriction, a handle is encoded.
+pub fn encode_fault(source: u64) -> bool
+    ensures { λ r. ⌜ r ≡ encodeFault source ⌝ }
+{
+    !(source % 0x1_0000_0000 / 8 == 0)
+}
+
+// Where a handle is loaded from, for an instruction of so many bytes.
+pub fn handle_address(cpu: &[u8], bytes: u64, o: Operand) -> Address
+    requires { ⌜ length (now cpu) ≡ cpuSize ⌝ }
+    ensures { λ r. ⌜ r ≡ handleAddress (now (cpu .entry)) bytes o ⌝ }
+{
+    match o {
+        Operand::Register(_) => Address {
+            linear: 0,
+            segment: Segment::Data,
+        },
+        Operand::Memory(place) => {
+            let r = registers(cpu);
+            effective_address(&r, rip(cpu), bytes, place)
+        }
+    }
+}
+
+// A byte that is not canonical: 13, #SS, in the stack segment, else 12, #GP.
+fn not_canonical(segment: Segment) -> u8
+    ensures { λ r. ⌜ r ≡ segmentNumber segment ⌝ }
+{
+    match segment {
+        Segment::Data => 12,
+        Segment::Stack => 13,
+    }
+}
+
+// 12 to 14 for a handle at an address.
+pub fn handle_refusal(memory: usize, a: Address, size: KeySize) -> u8
+    ensures { λ r. ⌜ r ≡ first (handleTests memory a size) ⌝ }
+{
+    let segment = a.segment;
+    if some_not_canonical(a.linear, size) {
+        return not_canonical(segment);
+    }
+    if some_outside(memory as u64, a.linear, size) {
+        return 14;
+    }
+    0
+}
+
+// 12 where it holds.
+fn fault(holds: bool) -> u8
+    ensures { λ r. ⌜ r ≡ cond holds 12 0 ⌝ }
+{
+    if holds {
+        return 12;
+    }
+    0
+}
+
+// 12 to 14 for an instruction.
+fn operand_refusal(features: u8, cpu: &[u8], memory: usize, what: Instruction, bytes: u64) -> u8
+    requires { ⌜ length (now cpu) ≡ cpuSize ⌝ }
+    ensures { λ r. ⌜ r ≡ first (operandTests features (now (cpu .entry)) memory what bytes) ⌝ }
+{
+    match what {
+        Instruction::Use(u) => {
+            let size = u.size;
+            let handle = u.handle;
+            handle_refusal(memory, handle_address(cpu, bytes, handle), size)
+        }
+        Instruction::WideUse(u) => {
+            let size = u.size;
+            let handle = u.handle;
+            handle_refusal(memory, handle_address(cpu, bytes, handle), size)
+        }
+        Instruction::LoadIwKey(_) => fault(load_fault(features, cpu)),
+        Instruction::EncodeKey(e) => {
+            let source = e.source;
+            fault(encode_fault(register(cpu, register_of(source))))
+        }
+    }
+}
+
+// 10 to 14 for an instruction of so many bytes.
+pub fn instruction_refusal(
+    features: u8,
+    cpu: &[u8],
+    memory: usize,
+    what: Instruction,
+    lock: bool,
+    bytes: u64,
+) -> u8
+    requires { ⌜ length (now cpu) ≡ cpuSize ⌝ }
+    ensures { λ r. ⌜ r ≡ first (instructionTests features (now (cpu .entry)) memory what lock bytes) ⌝ }
+{
+    let c = control(cpu);
+    if invalid_opcode(features, c, lock, needs_firmware(what), needs_wide(what)) {
+        return 10;
+    }
+    if no_math(c) {
+        return 11;
+    }
+    operand_refusal(features, cpu, memory, what, bytes)
+}
+
+// ---- a step
+
+// 5 to 7: CPU record, guest memory and random data.
+pub fn record_refusal(cpu: &[u8], memory: usize, random: usize) -> u8
+    requires { ⌜ length (now cpu) ≡ cpuSize ⌝ }
+    ensures { λ r. ⌜ r ≡ first (recordTests (now (cpu .entry)) memory random) ⌝ }
+{
+    if (3 < cpl(cpu)) | zero_field_set(cpu) {
+        return 5;
+    }
+    if 1048576 < memory {
+        return 6;
+    }
+    if !((random == 0) | (random == 48)) {
+        return 7;
+    }
+    0
+}
+
+// 3 to 14 for what a string holds: guest memory and random data are told by their lengths.
+pub fn step_refusal(
+    count: u8,
+    features: u8,
+    processor: u8,
+    cpu: &[u8],
+    memory: usize,
+    random: usize,
+    d: Decoded,
+) -> u8
+    ensures { λ r. ⌜ ((s : StepCall) → s .processor ≡ processor → s .cpu ≡ now (cpu .entry) → length (s .memory) ≡ memory → length (s .random) ≡ random → decode (s .string) ≡ d → r ≡ refusal (record { count = count; features = features }) (step s)) ⌝ }
+{
+    if count <= processor {
+        return 3;
+    }
+    if cpu.len() != 408 {
+        return 4;
+    }
+    let record = record_refusal(cpu, memory, random);
+    if record != 0 {
+        return record;
+    }
+    match d {
+        Decoded::BadByte => 8,
+        Decoded::EndOfString => 9,
+        Decoded::Found { what, lock, next } => {
+            instruction_refusal(features, cpu, memory, what, lock, next as u64)
+        }
+    }
+}
+
+// ---- backup registers
+
+// What reading and writing share of 12.
+fn no_registers(features: u8, cpl: u8) -> bool
+    ensures { λ r. ⌜ r ≡ noRegisters features cpl ⌝ }
+{
+    (0 < cpl) | !bit(KEY_LOCKER, features) | !bit(BACKUP_REGISTERS, features)
+}
+
+// 3, 5 and 12.
+fn register_refusal(count: u8, processor: u8, cpl: u8, fault: bool) -> u8
+    ensures { λ r. ⌜ r ≡ cond (leb count processor) 3 (cond (ltb 3 cpl) 5 (cond fault 12 0)) ⌝ }
+{
+    if count <= processor {
+        return 3;
+    }
+    if 3 < cpl {
+        return 5;
+    }
+    if fault {
+        return 12;
+    }
+    0
+}
+
+pub fn read_refusal(count: u8, features: u8, processor: u8, cpl: u8, address: u32) -> u8
+    ensures { λ r. ⌜ r ≡ refusal (record { count = count; features = features }) (read (record { processor = processor; cpl = cpl; address = address })) ⌝ }
+{
+    let fault = no_registers(features, cpl) | !((address == 0x990) | (address == 0x991));
+    register_refusal(count, processor, cpl, fault)
+}
+
+pub fn write_refusal(
+    count: u8,
+    features: u8,
+    processor: u8,
+    cpl: u8,
+    address: u32,
+    value: u64,
+) -> u8
+    ensures { λ r. ⌜ r ≡ refusal (record { count = count; features = features }) (write (record { processor = processor; cpl = cpl; address = address; value = value })) ⌝ }
+{
+    let fault = no_registers(features, cpl)
+        | !((address == 0xD91) | (address == 0xD92))
+        | (1 < value);
+    register_refusal(count, processor, cpl, fault)
+}
+
+// ---- 2
+
+pub fn settle_refusal(code: u8) -> u8
+    ensures { λ r. ⌜ ((v : View) → r ≡ refusal v (settle (record { code = code }))) ⌝ }
+{
+    if 2 <= code {
+        return 2;
+    }
+    0
+}
+
+pub fn sleep_refusal(code: u8) -> u8
+    ensures { λ r. ⌜ ((v : View) → r ≡ refusal v (sleep (record { code = code }))) ⌝ }
+{
+    if 3 <= code {
+        return 2;
+    }
+    0
+}
