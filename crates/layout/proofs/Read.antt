@@ -1,4 +1,4 @@
--- What stands at a position: the bytes and the entries read so far, and a record from its fields.
+-- What stands at a position: the bytes read so far, and a record from its fields.
 -- Assumes nothing.
 use mathlib.Core.Path.{_≡_, _∙_, refl, sym, ap, ap₂}
 use mathlib.Core.List.{List, [], _∷_, _++_}
@@ -15,36 +15,15 @@ use Rattle.model.specs.declared.Processor.{Processor}
 use Rattle.model.specs.declared.Slot.{Slot}
 use Rattle.model.specs.declared.Platform.{Platform}
 
--- ---- arrays, filled from the front
-
-filled : {A : Type 0} (l : List A) (i : ℕ) (x : A) {w : List A} → i < length l → take i l ≡ w → take (i + 1) (set l i x) ≡ w ++ (x ∷ [])
-filled l i x h e = ap (λ (n : ℕ). take n (set l i x)) (add-one i) ∙ take-suc-set l i x h ∙ ap (λ (w : List _). w ++ (x ∷ [])) e
-
--- one byte more
+-- one byte more of an array that is filled from the front
 pub byte-read : (s a : List ℕ) (at i : ℕ) → at + i < length s → i < length a → take i a ≡ part i at s
     → take (i + 1) (set a i (getD s (at + i) 0)) ≡ part (i + 1) at s
 byte-read s a at i h k e =
-    filled a i (getD s (at + i) 0) k e
-    ∙ ap (λ (x : ℕ). part i at s ++ (x ∷ [])) (sym (getD-drop at s i 0))
+    ap (λ (n : ℕ). take n (set a i (getD s (at + i) 0))) (add-one i)
+    ∙ take-suc-set a i (getD s (at + i) 0) k
+    ∙ ap₂ (λ (w : List ℕ) (x : ℕ). w ++ (x ∷ [])) e (sym (getD-drop at s i 0))
     ∙ sym (take-suc (drop at s) i 0 (simp length-drop (omega arith)))
     ∙ ap (λ (n : ℕ). part n at s) (sym (add-one i))
-
-entries-more : (n : ℕ) (t : List ℕ) → entriesAt (suc n) t ≡ entriesAt n t ++ (entryAt (drop (n * entrySize) t) ∷ [])
-entries-more zero t = refl
-entries-more (suc n) t =
-    let e : entrySize + n * entrySize ≡ suc n * entrySize = omega arith in
-    ap (λ (l : List Processor). entryAt t ∷ l) (entries-more n (drop entrySize t))
-    ∙ ap (λ (w : List ℕ). entryAt t ∷ (entriesAt n (drop entrySize t) ++ (entryAt w ∷ [])))
-    (drop-drop (n * entrySize) entrySize t ∙ ap (λ (k : ℕ). drop k t) e)
-
--- one entry more
-pub entry-read : (s : List ℕ) (l : List Processor) (at i : ℕ) (x : Processor) → i < length l → take i l ≡ entriesAt i (drop at s)
-    → x ≡ entryAt (drop (at + i * entrySize) s) → take (i + 1) (set l i x) ≡ entriesAt (i + 1) (drop at s)
-entry-read s l at i x h e p =
-    filled l i x h e
-    ∙ ap (λ (y : Processor). entriesAt i (drop at s) ++ (y ∷ [])) (p ∙ ap entryAt (sym (drop-drop (i * entrySize) at s)))
-    ∙ sym (entries-more i (drop at s))
-    ∙ ap (λ (n : ℕ). entriesAt n (drop at s)) (sym (add-one i))
 
 -- ---- records, field by field
 
@@ -60,9 +39,15 @@ module _ (s : List ℕ) (at : ℕ) where
         «no_backup» = sym (getD-drop at s 49 0) j;
       }
 
-  pub entry-fields : {k : IwKey} → k ≡ keyAt (drop at s)
+  pub entry-read : {k : IwKey} → k ≡ keyAt (drop at s)
       → _≡_ {A = Processor} (record { key = k; «copy_status» = getD s (at + 50) 0 }) (entryAt (drop at s))
-  entry-fields p = λ j. record { key = p j; «copy_status» = sym (getD-drop at s 50 0) j }
+  entry-read p = λ j. record { key = p j; «copy_status» = sym (getD-drop at s 50 0) j }
+
+  -- an entry, and those behind it
+  pub entries-read : (n : ℕ) {e : Processor} {l : List Processor} → e ≡ entryAt (drop at s) → l ≡ entriesAt n (drop (at + entrySize) s)
+      → e ∷ l ≡ entriesAt (suc n) (drop at s)
+  entries-read n p q =
+      ap₂ (λ (e : Processor) (l : List Processor). e ∷ l) p (q ∙ ap (entriesAt n) (sym (drop-drop entrySize at s)))
 
   pub slot-read : {k : IwKey} → k ≡ keyAt (drop (at + 1) s) → _≡_ {A = Slot} (record { present = getD s at 0; key = k }) (slotAt (drop at s))
   slot-read p =

@@ -62,17 +62,29 @@ fn entry_at(s: &[u8], at: usize) -> Processor
     }
 }
 
-fn entries_at(s: &[u8], at: usize) -> [Processor; 16]
-    requires { ⌜ at + processorLimit * model.entrySize ≤ length (now s) ⌝ }
-    ensures { λ r. ⌜ r ≡ model.entriesAt processorLimit (drop at (now (s .entry))) ⌝ }
+// One by one: a loop would first fill an array, and copy it once more.
+fn entries(s: &[u8]) -> [Processor; 16]
+    requires { ⌜ length (now s) ≡ model.machineSize ⌝ }
+    ensures { λ r. ⌜ r ≡ model.entriesAt processorLimit (drop 2 (now (s .entry))) ⌝ }
 {
-    let first = entry_at(s, at);
-    let mut l = [first; 16];
-    for i in 0..16usize {
-        let e = entry_at(s, at + i * 51);
-        l[i] = e;
-    }
-    l
+    [
+        entry_at(s, 2),
+        entry_at(s, 53),
+        entry_at(s, 104),
+        entry_at(s, 155),
+        entry_at(s, 206),
+        entry_at(s, 257),
+        entry_at(s, 308),
+        entry_at(s, 359),
+        entry_at(s, 410),
+        entry_at(s, 461),
+        entry_at(s, 512),
+        entry_at(s, 563),
+        entry_at(s, 614),
+        entry_at(s, 665),
+        entry_at(s, 716),
+        entry_at(s, 767),
+    ]
 }
 
 fn slot_at(s: &[u8], at: usize) -> Slot
@@ -106,7 +118,7 @@ pub fn read_machine(s: &[u8]) -> Machine
     requires { ⌜ length (now s) ≡ model.machineSize ⌝ }
     ensures { λ r. ⌜ r ≡ model.machineAt (now (s .entry)) ⌝ }
 {
-    let processors = entries_at(s, 2);
+    let processors = entries(s);
     let platform = platform_at(s, 818);
     Machine {
         count: s[0],

@@ -4,8 +4,8 @@ use borrow.Author.Needs.{needs}
 use Rattle.layout.proofs.read_machine.Statement.{statement}
 use Rattle.layout.proofs.read_machine.Tie as tie
 
-entries-at-requires : tie.Need-entries-at-requires
-entries-at-requires c κs = search needs
+entries-requires : tie.Need-entries-requires
+entries-requires c κs = search needs
 
 platform-at-requires : tie.Need-platform-at-requires
 platform-at-requires c κs = search needs
@@ -24,7 +24,7 @@ returns c =
     record {
       count = getD s 0 0;
       features = getD s 1 0;
-      processors = c .before .before .before .entries-at .ensures j;
+      processors = c .before .before .before .entries .ensures j;
       platform = c .before .before .platform-at .ensures j;
     }
 
@@ -32,7 +32,7 @@ pub read-machine-spec : {M : Type 1} → statement M
 read-machine-spec =
     tie.close
     (tie.spec
-    entries-at-requires
+    entries-requires
     platform-at-requires
     shared-slice-read-t5
     shared-slice-read-t7
