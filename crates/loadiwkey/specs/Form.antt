@@ -3,13 +3,13 @@
 use mathlib.Core.Bool.{cond}
 use mathlib.Core.List.{List, []}
 use Prim.Native.Nat.{ℕ}
-use Rattle.model.specs.Instructions.{Executed}
+use Rattle.model.specs.Instructions as model
 use Rattle.loadiwkey.specs.declared.Random.{Random}
-use Rattle.loadiwkey.specs.declared.Loaded.{Loaded}
+use Rattle.loadiwkey.specs.declared.Executed.{Executed}
 
 -- the scope, "Records": 48 random bytes, "or none for 'not ready'"
 abbrev pub randomData : Random → List ℕ
 randomData r = cond (r .ready) (r .bytes) []
 
-abbrev pub loadedOf : Loaded → Executed
-loadedOf r = record { key = r .key; cpu = r .cpu }
+abbrev pub executedOf : Executed → model.Executed
+executedOf r = record { key = r .key; cpu = r .cpu }

@@ -5,7 +5,7 @@ ghost use Rattle.bits.specs.Bytes.{xorBytes};
 ghost use Rattle.model.specs.Cpu.{cpuSize};
 ghost use Rattle.model.specs.Forms.{keySource, noBackup};
 ghost use Rattle.model.specs.Instructions as model;
-ghost use Rattle.loadiwkey.specs.Form.{randomData, loadedOf};
+ghost use Rattle.loadiwkey.specs.Form.{randomData, executedOf};
 use aes::word::put_block;
 use aes::word::to_bytes;
 use cpu::put_zf;
@@ -21,7 +21,8 @@ pub struct Random {
     pub bytes: [u8; 48],
 }
 
-pub struct Loaded {
+// An IWKey and a CPU record after an instruction.
+pub struct Executed {
     pub key: IwKey,
     pub cpu: [u8; 408],
 }
@@ -88,8 +89,8 @@ fn mixed(k: IwKey, random: [u8; 48]) -> IwKey
 }
 
 // Not ready at key source 1: ZF is 1 and the IWKey is kept.
-pub fn load(l: LoadIwKey, random: Random, k: IwKey, cpu: [u8; 408]) -> Loaded
-    ensures { λ r. ⌜ loadedOf r ≡ model.load l (randomData random) k cpu ⌝ }
+pub fn load(l: LoadIwKey, random: Random, k: IwKey, cpu: [u8; 408]) -> Executed
+    ensures { λ r. ⌜ executedOf r ≡ model.load l (randomData random) k cpu ⌝ }
 {
     let source = key_source(&cpu);
     let plain = plain_key(l, &cpu);
@@ -97,13 +98,13 @@ pub fn load(l: LoadIwKey, random: Random, k: IwKey, cpu: [u8; 408]) -> Loaded
     let mut c = cpu;
     if source != 1 {
         put_zf(&mut c, 0);
-        return Loaded { key: plain, cpu: c };
+        return Executed { key: plain, cpu: c };
     }
     if random.ready {
         let key = mixed(plain, bytes);
         put_zf(&mut c, 0);
-        return Loaded { key, cpu: c };
+        return Executed { key, cpu: c };
     }
     put_zf(&mut c, 1);
-    Loaded { key: k, cpu: c }
+    Executed { key: k, cpu: c }
 }

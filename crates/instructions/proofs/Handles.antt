@@ -1,0 +1,41 @@
+-- A handle in memory, block by block.
+-- Assumes nothing.
+use mathlib.Core.Path.{_≡_, _∙_, sym, ap, ap₂, subst}
+use mathlib.Core.List.{List, _++_}
+use Prim.Native.Nat.{ℕ, _+_, _≤_}
+use native.Mathlib.Omega.{arith}
+use Rattle.bits.proofs.Lists.{part-add}
+use Rattle.aes.specs.Form.{bytesOf}
+use Rattle.aes.specs.declared.KeySize.{KeySize}
+use Rattle.aes.specs.declared.KeySize.the-variants.{Aes128, Aes256}
+use Rattle.isa.specs.Ranges.{handleLength}
+use Rattle.keywrap.specs.Form.{handleBytes}
+use Rattle.keywrap.specs.declared.Handle.{Handle}
+use Rattle.model.specs.Numbers.{part}
+
+three-blocks : (s : List ℕ) (at : ℕ) → part 48 at s ≡ part 16 at s ++ part 16 (at + 16) s ++ part 16 (at + 32) s
+three-blocks s at = part-add s at 32 16 ∙ ap (λ (l : List ℕ). l ++ part 16 (at + 32) s) (part-add s at 16 16)
+
+four-blocks : (s : List ℕ) (at : ℕ) → part 64 at s ≡ part 16 at s ++ part 16 (at + 16) s ++ part 16 (at + 32) s ++ part 16 (at + 48) s
+four-blocks s at = part-add s at 48 16 ∙ ap (λ (l : List ℕ). l ++ part 16 (at + 48) s) (three-blocks s at)
+
+-- every handle has three blocks
+pub three-at-least : (size : KeySize) → 48 ≤ handleLength size
+three-at-least Aes128 = omega arith
+three-at-least Aes256 = omega arith
+
+-- a handle's struct, filled block by block
+module _ (size : KeySize) (h : Handle) (s : List ℕ) (at : ℕ) (aad : bytesOf (h .aad) ≡ part 16 at s) (tag : bytesOf (h .tag) ≡ part 16 (at + 16) s)
+    (low : bytesOf (h .ciphertext .low) ≡ part 16 (at + 32) s) where
+  abbrev join : List ℕ → List ℕ → List ℕ
+  join x y = x ++ y
+
+  pub handle-128 : size ≡ Aes128 → handleBytes size h ≡ part (handleLength size) at s
+  handle-128 e =
+      subst (λ (z : KeySize). handleBytes z h ≡ part (handleLength z) at s) (sym e)
+      (ap₂ join (ap₂ join aad tag) low ∙ sym (three-blocks s at))
+
+  pub handle-256 : size ≡ Aes256 → bytesOf (h .ciphertext .high) ≡ part 16 (at + 48) s → handleBytes size h ≡ part (handleLength size) at s
+  handle-256 e high =
+      subst (λ (z : KeySize). handleBytes z h ≡ part (handleLength z) at s) (sym e)
+      (ap₂ join (ap₂ join (ap₂ join aad tag) low) high ∙ sym (four-blocks s at))
