@@ -11,11 +11,13 @@ use Rattle.bits.proofs.Choice.{cond-on, cond-off}
 use Rattle.isa.specs.Decode.{decode}
 use Rattle.isa.specs.declared.Decoded.{Decoded}
 use Rattle.isa.specs.declared.Decoded.the-variants as decoded
+use Rattle.isa.specs.declared.Instruction.{Instruction}
+use Rattle.isa.specs.declared.Instruction.the-variants as instruction
 use Rattle.model.specs.Cpu.{cpuSize, cpl, control, zeroFieldSet}
 use Rattle.model.specs.Forms.{formOf}
 use Rattle.model.specs.Calls.{StepCall, ReadCall, WriteCall, SettleCall, SleepCall, step, read, write, settle, sleep}
 use Rattle.model.specs.Refusals.{View, Test, test, first, of, ofDecoded, badByte, ended, memoryLimit, randomLength, needsFirmware, needsWide, invalidOpcode, noMath, canonicalFault, instructionFault, outside, registerFault, tests, refusal}
-use Rattle.refusals.specs.Parts.{instructionTests, recordTests}
+use Rattle.refusals.specs.Parts.{operandTests, instructionTests, recordTests}
 use Rattle.refusals.proofs.Ways.{met, passed}
 
 -- ---- settle, sleep, the backup registers
@@ -59,12 +61,20 @@ decodedRefusal features cpu memory (decoded.Found what lock bytes) = first (inst
 decodedRefusal features cpu memory decoded.BadByte = 8
 decodedRefusal features cpu memory decoded.EndOfString = 9
 
+operand-first : (features : ℕ) (cpu : List ℕ) (memory : ℕ) (what : Instruction) (bytes : ℕ)
+    → cond (instructionFault features cpu what bytes) 12 (cond (of (canonicalFault true cpu bytes) (formOf what)) 13 (cond (of (outside memory cpu bytes) (formOf what)) 14 0))
+    ≡ first (operandTests features cpu memory what bytes)
+operand-first features cpu memory (instruction.Use u) bytes = refl
+operand-first features cpu memory (instruction.WideUse u) bytes = refl
+operand-first features cpu memory (instruction.LoadIwKey l) bytes = refl
+operand-first features cpu memory (instruction.EncodeKey e) bytes = refl
+
 decoded-first : (features : ℕ) (cpu : List ℕ) (memory : ℕ) (d : Decoded) → first (decodedTests features cpu memory d) ≡ decodedRefusal features cpu memory d
 decoded-first features cpu memory (decoded.Found what lock bytes) =
     let rest : ℕ =
     cond (of (canonicalFault true cpu bytes) (formOf what)) 13 (cond (of (outside memory cpu bytes) (formOf what)) 14 0) in
-    ap (λ (b : Bool). cond (invalidOpcode features (control cpu) lock (needsFirmware what) (needsWide what)) 10 (cond (noMath (control cpu)) 11 (cond b 12 rest)))
-    (or-false (instructionFault features cpu what bytes))
+    ap (λ (r : ℕ). cond (invalidOpcode features (control cpu) lock (needsFirmware what) (needsWide what)) 10 (cond (noMath (control cpu)) 11 r))
+    (ap (λ (b : Bool). cond b 12 rest) (or-false (instructionFault features cpu what bytes)) ∙ operand-first features cpu memory what bytes)
 decoded-first features cpu memory decoded.BadByte = refl
 decoded-first features cpu memory decoded.EndOfString = refl
 

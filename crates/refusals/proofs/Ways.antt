@@ -49,53 +49,58 @@ module _ (memory : ℕ) (a : Address) (size : KeySize) where
 
 -- ---- 10 to 14 for an instruction
 
+abbrev undefined : ℕ → List ℕ → Instruction → Bool → Bool
+undefined features cpu what lock = invalidOpcode features (control cpu) lock (needsFirmware what) (needsWide what)
+
+-- test 10, from what its parts gave
+pub told-opcode : (features : ℕ) (cpu : List ℕ) (what : Instruction) (lock : Bool) (r b f w : Bool) (k : ℕ)
+    → r ≡ invalidOpcode features k lock f w → k ≡ control cpu → f ≡ needsFirmware what → w ≡ needsWide what → r ≡ b → undefined features cpu what lock ≡ b
+told-opcode features cpu what lock r b f w k e p q s g =
+    sym (e ∙ ap (λ (x : ℕ). invalidOpcode features x lock f w) p ∙ ap₂ (λ (x y : Bool). invalidOpcode features (control cpu) lock x y) q s) ∙ g
+
 module _ (features : ℕ) (cpu : List ℕ) (memory : ℕ) (what : Instruction) (lock : Bool) (bytes : ℕ) where
-  abbrev undefined : Bool
-  undefined = invalidOpcode features (control cpu) lock (needsFirmware what) (needsWide what)
+  abbrev test10 : Bool
+  test10 = undefined features cpu what lock
 
-  -- the test, from what its parts gave
-  pub told-opcode : (r b f w : Bool) (k : ℕ) → r ≡ invalidOpcode features k lock f w → k ≡ control cpu → f ≡ needsFirmware what → w ≡ needsWide what
-      → r ≡ b → undefined ≡ b
-  told-opcode r b f w k e p q s g =
-      sym (e ∙ ap (λ (x : ℕ). invalidOpcode features x lock f w) p ∙ ap₂ (λ (x y : Bool). invalidOpcode features (control cpu) lock x y) q s) ∙ g
+  abbrev test11 : Bool
+  test11 = noMath (control cpu)
 
-  pub instruction-10 : undefined ≡ true → 10 ≡ first (instructionTests features cpu memory what lock bytes)
-  instruction-10 e = met undefined 10 (cond (noMath (control cpu)) 11 (first (operandTests features cpu memory what bytes))) e
+  abbrev after11 : ℕ
+  after11 = first (operandTests features cpu memory what bytes)
 
-  pub instruction-11 : undefined ≡ false → noMath (control cpu) ≡ true → 11 ≡ first (instructionTests features cpu memory what lock bytes)
-  instruction-11 e f =
-      let rest = first (operandTests features cpu memory what bytes) in
-      passed undefined 10 (cond (noMath (control cpu)) 11 rest) 11 e (met (noMath (control cpu)) 11 rest f)
+  pub instruction-10 : test10 ≡ true → 10 ≡ first (instructionTests features cpu memory what lock bytes)
+  instruction-10 e = met test10 10 (cond test11 11 after11) e
 
-  pub instruction-rest : (r : ℕ) → undefined ≡ false → noMath (control cpu) ≡ false → r ≡ first (operandTests features cpu memory what bytes)
-      → r ≡ first (instructionTests features cpu memory what lock bytes)
-  instruction-rest r e f p =
-      let rest = first (operandTests features cpu memory what bytes) in
-      passed undefined 10 (cond (noMath (control cpu)) 11 rest) r e (passed (noMath (control cpu)) 11 rest r f p)
+  pub instruction-11 : test10 ≡ false → test11 ≡ true → 11 ≡ first (instructionTests features cpu memory what lock bytes)
+  instruction-11 e f = passed test10 10 (cond test11 11 after11) 11 e (met test11 11 after11 f)
+
+  pub instruction-rest : (r : ℕ) → test10 ≡ false → test11 ≡ false → r ≡ after11 → r ≡ first (instructionTests features cpu memory what lock bytes)
+  instruction-rest r e f p = passed test10 10 (cond test11 11 after11) r e (passed test11 11 after11 r f p)
 
 -- ---- 5 to 7
 
+abbrev badRecord : List ℕ → Bool
+badRecord cpu = ltb 3 (cpl cpu) || zeroFieldSet cpu
+
+-- test 5, from what its parts gave
+pub told-record : (cpu : List ℕ) (z b : Bool) (k : ℕ) → k ≡ cpl cpu → z ≡ zeroFieldSet cpu → (ltb 3 k || z) ≡ b → badRecord cpu ≡ b
+told-record cpu z b k p q g = sym (ap₂ (λ (x : ℕ) (y : Bool). ltb 3 x || y) p q) ∙ g
+
 module _ (cpu : List ℕ) (memory random : ℕ) where
-  abbrev badRecord : Bool
-  badRecord = ltb 3 (cpl cpu) || zeroFieldSet cpu
+  abbrev after6 : ℕ
+  after6 = cond (not (randomLength random)) 7 0
 
   abbrev after5 : ℕ
-  after5 = cond (ltb memoryLimit memory) 6 (cond (not (randomLength random)) 7 0)
+  after5 = cond (ltb memoryLimit memory) 6 after6
 
-  -- the test, from what its parts gave
-  pub told-record : (z b : Bool) (k : ℕ) → k ≡ cpl cpu → z ≡ zeroFieldSet cpu → (ltb 3 k || z) ≡ b → badRecord ≡ b
-  told-record z b k p q g = sym (ap₂ (λ (x : ℕ) (y : Bool). ltb 3 x || y) p q) ∙ g
+  pub record-5 : badRecord cpu ≡ true → 5 ≡ first (recordTests cpu memory random)
+  record-5 e = met (badRecord cpu) 5 after5 e
 
-  pub record-5 : badRecord ≡ true → 5 ≡ first (recordTests cpu memory random)
-  record-5 e = met badRecord 5 after5 e
+  pub record-6 : badRecord cpu ≡ false → memoryLimit < memory → 6 ≡ first (recordTests cpu memory random)
+  record-6 e h = passed (badRecord cpu) 5 after5 6 e (met (ltb memoryLimit memory) 6 after6 (lt-ltb memoryLimit memory h))
 
-  pub record-6 : badRecord ≡ false → memoryLimit < memory → 6 ≡ first (recordTests cpu memory random)
-  record-6 e h =
-      passed badRecord 5 after5 6 e (met (ltb memoryLimit memory) 6 (cond (not (randomLength random)) 7 0) (lt-ltb memoryLimit memory h))
-
-  pub record-rest : (b : Bool) → badRecord ≡ false → memory ≤ memoryLimit → not (randomLength random) ≡ b
+  pub record-rest : (b : Bool) → badRecord cpu ≡ false → memory ≤ memoryLimit → not (randomLength random) ≡ b
       → cond b 7 0 ≡ first (recordTests cpu memory random)
   record-rest b e h f =
-      passed badRecord 5 after5 (cond b 7 0) e
-      (passed (ltb memoryLimit memory) 6 (cond (not (randomLength random)) 7 0) (cond b 7 0) (le-ltb memoryLimit memory h)
-      (ap (λ (t : Bool). cond t 7 0) (sym f)))
+      passed (badRecord cpu) 5 after5 (cond b 7 0) e
+      (passed (ltb memoryLimit memory) 6 after6 (cond b 7 0) (le-ltb memoryLimit memory h) (ap (λ (t : Bool). cond t 7 0) (sym f)))

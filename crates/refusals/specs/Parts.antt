@@ -8,11 +8,12 @@ use Rattle.aes.specs.declared.KeySize.{KeySize}
 use Rattle.isa.specs.Ranges.{handleLength, someNotCanonical, someOutside}
 use Rattle.isa.specs.declared.Address.{Address}
 use Rattle.isa.specs.declared.Instruction.{Instruction}
+use Rattle.isa.specs.declared.Instruction.the-variants as instruction
 use Rattle.isa.specs.declared.Segment.{Segment}
 use Rattle.isa.specs.declared.Segment.the-variants.{Data, Stack}
-use Rattle.model.specs.Cpu.{cpl, control, zeroFieldSet}
-use Rattle.model.specs.Forms.{formOf}
-use Rattle.model.specs.Refusals.{Test, test, of, memoryLimit, randomLength, needsFirmware, needsWide, invalidOpcode, noMath, inSegment, canonicalFault, instructionFault, outside}
+use Rattle.model.specs.Cpu.{register, cpl, control, zeroFieldSet}
+use Rattle.model.specs.Forms.{registerOf, handleAddress}
+use Rattle.model.specs.Refusals.{Test, test, memoryLimit, randomLength, needsFirmware, needsWide, invalidOpcode, noMath, loadFault, encodeFault, inSegment}
 
 -- which test a byte that is not canonical meets
 abbrev pub segmentNumber : Segment → ℕ
@@ -27,13 +28,12 @@ handleTests memory a size =
     ∷ test 14 (someOutside memory (a .linear) (handleLength size))
     ∷ []
 
--- 12 to 14 for an instruction
+-- 12 to 14 for an instruction: LOADIWKEY and ENCODEKEY read no handle
 abbrev pub operandTests : ℕ → List ℕ → ℕ → Instruction → ℕ → List Test
-operandTests features cpu memory what bytes =
-    test 12 (instructionFault features cpu what bytes)
-    ∷ test 13 (of (canonicalFault true cpu bytes) (formOf what))
-    ∷ test 14 (of (outside memory cpu bytes) (formOf what))
-    ∷ []
+operandTests features cpu memory (instruction.Use u) bytes = handleTests memory (handleAddress cpu bytes (u .handle)) (u .size)
+operandTests features cpu memory (instruction.WideUse u) bytes = handleTests memory (handleAddress cpu bytes (u .handle)) (u .size)
+operandTests features cpu memory (instruction.LoadIwKey l) bytes = test 12 (loadFault features cpu) ∷ []
+operandTests features cpu memory (instruction.EncodeKey e) bytes = test 12 (encodeFault (register (registerOf (e .source)) cpu)) ∷ []
 
 -- 10 to 14
 abbrev pub instructionTests : ℕ → List ℕ → ℕ → Instruction → Bool → ℕ → List Test

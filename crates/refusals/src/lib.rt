@@ -116,7 +116,7 @@ pub fn load_fault(features: u8, cpu: &[u8]) -> bool
         | ((eax / 2 % 16 == 1) & !bit(RANDOM_SOURCE, features))
 }
 
-// What ENCODEKEY has of 12: source bits 31:3. Its CPL is free: whatever the restriction, a handle is encoded.
+// What ENCODEKEY has of 12: source bits 31:3. Bits 2:0 are restrictions of the handle's use, not of its encoding.
 pub fn encode_fault(source: u64) -> bool
     ensures { λ r. ⌜ r ≡ encodeFault source ⌝ }
 {

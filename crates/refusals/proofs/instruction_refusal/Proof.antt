@@ -28,7 +28,7 @@ returns c =
     let lock = st .args .lock in
     let bytes = st .args .bytes in
     let opcode =
-    told-opcode features cpu memory what lock bytes (c .before .invalid-opcode .result) true (c .before .before .before .needs-firmware .result) (c .before .before .needs-wide .result) (c .before .before .before .before .control .result)
+    told-opcode features cpu what lock (c .before .invalid-opcode .result) true (c .before .before .before .needs-firmware .result) (c .before .before .needs-wide .result) (c .before .before .before .before .control .result)
     (c .before .invalid-opcode .ensures) (c .before .before .before .before .control .ensures) (c .before .before .before .needs-firmware .ensures) (c .before .before .needs-wide .ensures) (c .if1 .taken) in
     instruction-10 features cpu memory what lock bytes opcode
 
@@ -45,7 +45,7 @@ returns-2 c =
     let lock = st .args .lock in
     let bytes = st .args .bytes in
     let opcode =
-    told-opcode features cpu memory what lock bytes (c .before .before .before .invalid-opcode .result) false (c .before .before .before .before .before .needs-firmware .result) (c .before .before .before .before .needs-wide .result) (c .before .before .before .before .before .before .control .result)
+    told-opcode features cpu what lock (c .before .before .before .invalid-opcode .result) false (c .before .before .before .before .before .needs-firmware .result) (c .before .before .before .before .needs-wide .result) (c .before .before .before .before .before .before .control .result)
     (c .before .before .before .invalid-opcode .ensures) (c .before .before .before .before .before .before .control .ensures) (c .before .before .before .before .before .needs-firmware .ensures) (c .before .before .before .before .needs-wide .ensures) (c .before .before .if1 .left) in
     instruction-11 features cpu memory what lock bytes opcode (sym (c .before .no-math .ensures ∙ ap noMath (c .before .before .before .before .before .before .control .ensures)) ∙ c .if2 .taken)
 
@@ -62,7 +62,7 @@ returns-3 c =
     let lock = st .args .lock in
     let bytes = st .args .bytes in
     let opcode =
-    told-opcode features cpu memory what lock bytes (c .before .before .before .before .invalid-opcode .result) false (c .before .before .before .before .before .before .needs-firmware .result) (c .before .before .before .before .before .needs-wide .result) (c .before .before .before .before .before .before .before .control .result)
+    told-opcode features cpu what lock (c .before .before .before .before .invalid-opcode .result) false (c .before .before .before .before .before .before .needs-firmware .result) (c .before .before .before .before .before .needs-wide .result) (c .before .before .before .before .before .before .before .control .result)
     (c .before .before .before .before .invalid-opcode .ensures) (c .before .before .before .before .before .before .before .control .ensures) (c .before .before .before .before .before .before .needs-firmware .ensures) (c .before .before .before .before .before .needs-wide .ensures) (c .before .before .before .if1 .left) in
     instruction-rest features cpu memory what lock bytes (c .operand-refusal .result) opcode (sym (c .before .before .no-math .ensures ∙ ap noMath (c .before .before .before .before .before .before .before .control .ensures)) ∙ c .before .if2 .left) (c .operand-refusal .ensures)
 

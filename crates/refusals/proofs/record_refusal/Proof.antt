@@ -17,7 +17,7 @@ returns c =
     let memory = st .args .memory in
     let random = st .args .random in
     let told =
-    told-record cpu memory random (c .before .zero-field-set .result) true (c .before .before .cpl .result) (c .before .before .cpl .ensures) (c .before .zero-field-set .ensures) (c .if1 .taken) in
+    told-record cpu (c .before .zero-field-set .result) true (c .before .before .cpl .result) (c .before .before .cpl .ensures) (c .before .zero-field-set .ensures) (c .if1 .taken) in
     record-5 cpu memory random told
 
 returns-2 : tie.Need-returns-2
@@ -27,7 +27,7 @@ returns-2 c =
     let memory = st .args .memory in
     let random = st .args .random in
     let told =
-    told-record cpu memory random (c .before .before .zero-field-set .result) false (c .before .before .before .cpl .result) (c .before .before .before .cpl .ensures) (c .before .before .zero-field-set .ensures) (c .before .if1 .left) in
+    told-record cpu (c .before .before .zero-field-set .result) false (c .before .before .before .cpl .result) (c .before .before .before .cpl .ensures) (c .before .before .zero-field-set .ensures) (c .before .if1 .left) in
     record-6 cpu memory random told (c .if2 .taken)
 
 returns-3 : tie.Need-returns-3
@@ -37,7 +37,7 @@ returns-3 c =
     let memory = st .args .memory in
     let random = st .args .random in
     let told =
-    told-record cpu memory random (c .before .before .before .zero-field-set .result) false (c .before .before .before .before .cpl .result) (c .before .before .before .before .cpl .ensures) (c .before .before .before .zero-field-set .ensures) (c .before .before .if1 .left) in
+    told-record cpu (c .before .before .before .zero-field-set .result) false (c .before .before .before .before .cpl .result) (c .before .before .before .before .cpl .ensures) (c .before .before .before .zero-field-set .ensures) (c .before .before .if1 .left) in
     record-rest cpu memory random true told (c .before .if2 .left) (c .if3 .taken)
 
 returns-4 : tie.Need-returns-4
@@ -47,7 +47,7 @@ returns-4 c =
     let memory = st .args .memory in
     let random = st .args .random in
     let told =
-    told-record cpu memory random (c .before .before .before .zero-field-set .result) false (c .before .before .before .before .cpl .result) (c .before .before .before .before .cpl .ensures) (c .before .before .before .zero-field-set .ensures) (c .before .before .if1 .left) in
+    told-record cpu (c .before .before .before .zero-field-set .result) false (c .before .before .before .before .cpl .result) (c .before .before .before .before .cpl .ensures) (c .before .before .before .zero-field-set .ensures) (c .before .before .if1 .left) in
     record-rest cpu memory random false told (c .before .if2 .left) (c .if3 .left)
 
 pub record-refusal-spec : {M : Type 1} → statement M
