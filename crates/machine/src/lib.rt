@@ -1,17 +1,40 @@
 // The machine by value: power-on, register calls, settle, sleep, reset and step. Only here a processor of the machine is picked.
 ghost use mathlib.Core.Path.{_≡_};
-ghost use Rattle.model.specs.Calls.{settle, sleep, reset};
+ghost use mathlib.Core.Bool.{Bool, true};
+ghost use mathlib.Core.List.{[]};
+ghost use mathlib.Core.Option.{some};
+ghost use Rattle.isa.specs.Ranges.{handleLength};
+ghost use Rattle.isa.specs.declared.Decoded.the-variants as decoded;
+ghost use Rattle.isa.specs.declared.Instruction.{Instruction};
+ghost use Rattle.loadiwkey.specs.Form.{randomData, executedOf};
+ghost use Rattle.model.specs.Calls.{step, read, write, settle, sleep, reset};
+ghost use Rattle.model.specs.Cpu.{cpuSize};
+ghost use Rattle.model.specs.Forms.{Form, formOf, handleAddress};
+ghost use Rattle.model.specs.Instructions as instructions;
+ghost use Rattle.model.specs.Refusals.{randomLength};
 ghost use Rattle.model.specs.Execution as model;
-ghost use Rattle.model.specs.Records.{processorLimit, zeroKey, zeroProcessor, noProcessor, withProcessors};
-ghost use Prim.Native.Nat.{_%_};
-ghost use lib.ListN.{getD, set, replicate};
-ghost use Rattle.machine.specs.Form.{outcomeOf};
+ghost use Rattle.model.specs.Records.{processorLimit, zeroKey, zeroProcessor, noProcessor, withKey, withProcessors};
+ghost use Prim.Native.Nat.{ℕ, _+_, _%_, _≤_};
+ghost use lib.ListN.{length, getD, set, replicate};
+ghost use Rattle.machine.specs.Form.{outcomeOf, steppedOf};
 ghost use Rattle.machine.specs.declared.Answer.the-variants.{Done, Refused};
+use instructions::advance;
+use instructions::execute;
+use instructions::record_of;
+use isa::Decoded;
+use loadiwkey::Executed;
+use loadiwkey::Random;
 use model::IwKey;
 use model::Machine;
 use model::Platform;
 use model::Processor;
 use model::Slot;
+use platform::read_register;
+use platform::write_register;
+use reader::decode;
+use refusals::read_refusal;
+use refusals::step_refusal;
+use refusals::write_refusal;
 use validity::valid;
 
 // A call is done, or refused with its number.
@@ -165,4 +188,135 @@ pub fn reset(m: Machine) -> Outcome
         return refused(m, 1);
     }
     done(zeroed(m.count, m.features, zero_platform()))
+}
+
+// ---- the backup registers
+
+pub fn read(m: Machine, processor: u8, cpl: u8, address: u32) -> Outcome
+    ensures { λ r. ⌜ r ≡ outcomeOf (model.call m (read (record { processor = processor; cpl = cpl; address = address }))) ⌝ }
+{
+    if !valid(m) {
+        return refused(m, 1);
+    }
+    let n = read_refusal(m.count, m.features, processor, cpl, address);
+    if n != 0 {
+        return refused(m, n);
+    }
+    let l = m.processors;
+    let f = m.platform;
+    let value = read_register(address, processor_at(l, processor), f);
+    Outcome {
+        machine: m,
+        answer: Answer::Done,
+        value,
+    }
+}
+
+pub fn write(m: Machine, processor: u8, cpl: u8, address: u32, value: u64) -> Outcome
+    ensures { λ r. ⌜ r ≡ outcomeOf (model.call m (write (record { processor = processor; cpl = cpl; address = address; value = value }))) ⌝ }
+{
+    if !valid(m) {
+        return refused(m, 1);
+    }
+    let n = write_refusal(m.count, m.features, processor, cpl, address, value);
+    if n != 0 {
+        return refused(m, n);
+    }
+    let l = m.processors;
+    let f = m.platform;
+    let x = write_register(address, value, processor_at(l, processor), f);
+    let e = x.processor;
+    let g = x.platform;
+    let mut k = with_processor(m, l, processor, e);
+    k.platform = g;
+    done(k)
+}
+
+// ---- step
+
+// Random data, once its length is known: none, or 48 bytes.
+fn random_of(random: &[u8]) -> Random
+    requires { ⌜ randomLength (length (now random)) ≡ true ⌝ }
+    ensures { λ r. ⌜ randomData r ≡ now (random .entry) ⌝ }
+{
+    let mut bytes = [0u8; 48];
+    if random.len() == 0 {
+        return Random { ready: false, bytes };
+    }
+    for i in 0..48usize {
+        bytes[i] = random[i];
+    }
+    Random { ready: true, bytes }
+}
+
+// What the string's instruction does; a string that holds none does nothing.
+fn executed(d: Decoded, memory: &[u8], random: Random, k: IwKey, cpu: [u8; 408]) -> Executed
+    requires { ⌜ ((what : Instruction) (lock : Bool) (bytes : ℕ) → d ≡ decoded.Found what lock bytes → (f : Form) → formOf what ≡ some f → handleAddress cpu bytes (f .handle) .linear + handleLength (f .size) ≤ length (now memory)) ⌝ }
+    ensures { λ r. ⌜ executedOf r ≡ instructions.stepped (record { processor = 0; cpu = cpu; memory = now (memory .entry); random = randomData random; string = [] }) k d ⌝ }
+{
+    match d {
+        Decoded::Found { what, lock, next } => {
+            let x = execute(what, next as u64, memory, random, k, cpu);
+            let key = x.key;
+            let c = x.cpu;
+            Executed {
+                key,
+                cpu: advance(c, next as u64),
+            }
+        }
+        Decoded::BadByte => Executed { key: k, cpu },
+        Decoded::EndOfString => Executed { key: k, cpu },
+    }
+}
+
+fn refused_step(m: Machine, n: u8) -> Stepped
+    ensures { λ r. ⌜ r ≡ record { machine = m; answer = Refused n; cpu = replicate cpuSize 0 } ⌝ }
+{
+    Stepped {
+        machine: m,
+        answer: Answer::Refused(n),
+        cpu: [0u8; 408],
+    }
+}
+
+// The IWKey goes back to its processor.
+fn done_step(m: Machine, l: [Processor; 16], p: u8, e: Processor, x: Executed) -> Stepped
+    ensures { λ r. ⌜ r ≡ record { machine = withProcessors (set l (p % 16) (withKey (x .key) e)) m; answer = Done; cpu = x .cpu } ⌝ }
+{
+    let key = x.key;
+    let cpu = x.cpu;
+    let entry = Processor {
+        key,
+        copy_status: e.copy_status,
+    };
+    Stepped {
+        machine: with_processor(m, l, p, entry),
+        answer: Answer::Done,
+        cpu,
+    }
+}
+
+pub fn step(
+    m: Machine,
+    processor: u8,
+    cpu: &[u8],
+    memory: &[u8],
+    random: &[u8],
+    string: &[u8],
+) -> Stepped
+    ensures { λ r. ⌜ r ≡ steppedOf (model.call m (step (record { processor = processor; cpu = now (cpu .entry); memory = now (memory .entry); random = now (random .entry); string = now (string .entry) }))) ⌝ }
+{
+    if !valid(m) {
+        return refused_step(m, 1);
+    }
+    let d = decode(string);
+    let n = step_refusal(m.count, m.features, processor, cpu, memory.len(), random.len(), d);
+    if n != 0 {
+        return refused_step(m, n);
+    }
+    let l = m.processors;
+    let e = processor_at(l, processor);
+    let key = e.key;
+    let x = executed(d, memory, random_of(random), key, record_of(cpu));
+    done_step(m, l, processor, e, x)
 }

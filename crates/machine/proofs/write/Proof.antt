@@ -1,0 +1,89 @@
+use mathlib.Core.Path.{_≡_, _∙_, refl, sym, ap}
+use native.Mathlib.Nat.{suc-ne-zero}
+use borrow.Author.Tests.{not-true, not-false}
+use Rattle.model.specs.Calls as calls
+use Rattle.model.specs.Records.{withPlatform}
+use Rattle.model.specs.declared.Machine.{Machine}
+use Rattle.machine.proofs.Calls.{doneWith, not-valid, stopped, outcome-refused}
+use Rattle.machine.proofs.Steps.{read-done, write-done}
+use Rattle.platform.specs.Form.{copiedOf}
+use borrow.Author.Needs.{needs}
+use Rattle.machine.proofs.write.Statement.{statement}
+use Rattle.machine.proofs.write.Tie as tie
+use Rattle.machine.proofs.write.Reads as reads
+use Rattle.machine.proofs.write.Lts as lts
+use Rattle.machine.proofs.done.Reads as done-reads
+use Rattle.machine.proofs.processor_at.Reads as processor-at-reads
+use Rattle.machine.proofs.refused.Reads as refused-reads
+use Rattle.machine.proofs.with_processor.Reads as with-processor-reads
+use Rattle.platform.proofs.write_register.Reads as write-register-reads
+use Rattle.refusals.proofs.write_refusal.Reads as write-refusal-reads
+use Rattle.validity.proofs.valid.Reads as valid-reads
+
+valid-requires : tie.Need-valid-requires
+valid-requires c κs = search needs
+
+refused-requires : tie.Need-refused-requires
+refused-requires c κs = search needs
+
+returns : tie.Need-returns
+returns c =
+    let a = c .before .before .before .args in
+    let m = a .m in
+    c .refused .ensures
+    ∙ outcome-refused m (calls.write (record { processor = a .processor; cpl = a .cpl; address = a .address; value = a .value })) 1 (suc-ne-zero 0)
+    (not-valid m (calls.write (record { processor = a .processor; cpl = a .cpl; address = a .address; value = a .value })) (sym (c .before .before .valid .ensures) ∙ not-true (c .before .before .valid .result) (c .before .if1 .taken)))
+
+write-refusal-requires : tie.Need-write-refusal-requires
+write-refusal-requires c κs = search needs
+
+refused-requires-2 : tie.Need-refused-requires-2
+refused-requires-2 c κs = search needs
+
+returns-2 : tie.Need-returns-2
+returns-2 c =
+    let a = c .before .before .before .before .before .args in
+    let m = a .m in
+    let v = sym (c .before .before .before .before .valid .ensures) ∙ not-false (c .before .before .before .before .valid .result) (c .before .before .before .if1 .left) in
+    let n = c .before .before .write-refusal .result in
+    c .refused2 .ensures
+    ∙ outcome-refused m (calls.write (record { processor = a .processor; cpl = a .cpl; address = a .address; value = a .value })) n (c .before .if2 .taken) (stopped m (calls.write (record { processor = a .processor; cpl = a .cpl; address = a .address; value = a .value })) v n (sym (c .before .before .write-refusal .ensures)) (c .before .if2 .taken))
+
+processor-at-requires : tie.Need-processor-at-requires
+processor-at-requires c κs = search needs
+
+write-register-requires : tie.Need-write-register-requires
+write-register-requires c κs = search needs
+
+with-processor-requires : tie.Need-with-processor-requires
+with-processor-requires c κs = search needs
+
+done-requires : tie.Need-done-requires
+done-requires c κs = search needs
+
+returns-3 : tie.Need-returns-3
+returns-3 c =
+    let a = c .before .before .before .before .before .before .before .before .before .before .before .before .args in
+    let m = a .m in
+    let v = sym (c .before .before .before .before .before .before .before .before .before .before .before .valid .ensures) ∙ not-false (c .before .before .before .before .before .before .before .before .before .before .before .valid .result) (c .before .before .before .before .before .before .before .before .before .before .if1 .left) in
+    let x = copiedOf (c .before .before .before .before .write-register .result) in
+    c .done .ensures
+    ∙ ap (λ (n : Machine). doneWith (withPlatform (x .platform) n)) (c .before .with-processor .ensures)
+    ∙ write-done m v (record { processor = a .processor; cpl = a .cpl; address = a .address; value = a .value }) (sym (c .before .before .before .before .before .before .before .before .before .write-refusal .ensures) ∙ c .before .before .before .before .before .before .before .before .if2 .left) (c .before .before .before .before .before .processor-at .result) (c .before .before .before .before .before .processor-at .ensures)
+    x (c .before .before .before .before .write-register .ensures)
+
+pub write-spec : {M : Type 1} → statement M
+write-spec =
+    tie.close
+    (tie.spec
+    valid-requires
+    refused-requires
+    returns
+    write-refusal-requires
+    refused-requires-2
+    returns-2
+    processor-at-requires
+    write-register-requires
+    with-processor-requires
+    done-requires
+    returns-3)
