@@ -1,5 +1,5 @@
-// The scope, "Records": "For C it is lent as 924 bytes". Every call that is not turned back reads them all, so bytes go in runs of fixed
-// length, which are compiled to wide moves.
+// The scope, "Records": "For C it is lent as 924 bytes". A call reads and writes them all, so bytes go in runs of fixed length, which are
+// compiled to wide moves.
 ghost use mathlib.Core.Path.{_≡_};
 ghost use Prim.Native.Nat.{_+_, _*_, _≤_};
 ghost use lib.ListN.{length, drop};
