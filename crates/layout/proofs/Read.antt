@@ -1,19 +1,21 @@
 -- What stands at a position: the bytes read so far, and a record from its fields.
 -- Assumes nothing.
-use mathlib.Core.Path.{_≡_, _∙_, refl, sym, ap, ap₂}
+use mathlib.Core.Path.{_≡_, _∙_, sym, ap, ap₂}
 use mathlib.Core.List.{List, [], _∷_, _++_}
-use Prim.Native.Nat.{ℕ, zero, suc, _+_, _*_, _<_, _≤_}
+use Prim.Native.Nat.{ℕ, suc, _+_, _<_}
 use native.Mathlib.Nat.{add-zero}
 use native.Mathlib.Numerals.{add-one}
 use native.Mathlib.Omega.{arith}
 use lib.ListN.{length, getD, set, take, drop, length-drop}
 use lib.Seq.{take-suc, take-suc-set, getD-drop, drop-drop}
 use Rattle.model.specs.Numbers.{part}
-use Rattle.model.specs.Layout.{entrySize, keyAt, entryAt, entriesAt, slotAt, platformAt}
+use Rattle.model.specs.Records.{processorLimit}
+use Rattle.model.specs.Layout.{entrySize, keyAt, entryAt, entriesAt, slotAt, platformAt, machineAt}
 use Rattle.model.specs.declared.IwKey.{IwKey}
 use Rattle.model.specs.declared.Processor.{Processor}
 use Rattle.model.specs.declared.Slot.{Slot}
 use Rattle.model.specs.declared.Platform.{Platform}
+use Rattle.model.specs.declared.Machine.{Machine}
 
 -- one byte more of an array that is filled from the front
 pub byte-read : (s a : List ℕ) (at i : ℕ) → at + i < length s → i < length a → take i a ≡ part i at s
@@ -78,3 +80,8 @@ module _ (s : List ℕ) (at : ℕ) where
         error = sym (getD-drop at s 104 0) j;
         consumed = sym (getD-drop at s 105 0) j;
       }
+
+pub machine-read : (s : List ℕ) {l : List Processor} {f : Platform} → l ≡ entriesAt processorLimit (drop 2 s) → f ≡ platformAt (drop 818 s)
+    → _≡_ {A = Machine} (record { count = getD s 0 0; features = getD s 1 0; processors = l; platform = f }) (machineAt s)
+unfolding machineAt
+machine-read s p q = λ j. record { count = getD s 0 0; features = getD s 1 0; processors = p j; platform = q j }

@@ -1,5 +1,5 @@
-// The scope, "Records": "A machine record is 924 bytes". It is read and written at every call that gets so far, so bytes go in runs of a
-// fixed length, which are compiled to wide moves.
+// The scope, "Records": "For C it is lent as 924 bytes". A call reads and writes them all, so bytes go in runs of fixed length, which are
+// compiled to wide moves.
 ghost use mathlib.Core.Path.{_≡_};
 ghost use Prim.Native.Nat.{_+_, _*_, _≤_};
 ghost use lib.ListN.{length, drop};
@@ -51,6 +51,7 @@ fn key_at(s: &[u8], at: usize) -> IwKey
     }
 }
 
+// "integrity key, encryption key, source, NoBackup, copy status"
 fn entry_at(s: &[u8], at: usize) -> Processor
     requires { ⌜ at + model.entrySize ≤ length (now s) ⌝ }
     ensures { λ r. ⌜ r ≡ model.entryAt (drop at (now (s .entry))) ⌝ }
@@ -62,7 +63,7 @@ fn entry_at(s: &[u8], at: usize) -> Processor
     }
 }
 
-// One by one: a loop would first fill an array, and copy it once more.
+// Written out: a loop would have to fill the array before, and took twice as long.
 fn entries(s: &[u8]) -> [Processor; 16]
     requires { ⌜ length (now s) ≡ model.machineSize ⌝ }
     ensures { λ r. ⌜ r ≡ model.entriesAt processorLimit (drop 2 (now (s .entry))) ⌝ }
@@ -87,6 +88,7 @@ fn entries(s: &[u8]) -> [Processor; 16]
     ]
 }
 
+// "each a presence byte and an IWKey"
 fn slot_at(s: &[u8], at: usize) -> Slot
     requires { ⌜ at + model.slotSize ≤ length (now s) ⌝ }
     ensures { λ r. ⌜ r ≡ model.slotAt (drop at (now (s .entry))) ⌝ }
@@ -98,6 +100,7 @@ fn slot_at(s: &[u8], at: usize) -> Slot
     }
 }
 
+// "backup, then store, ..; pending, valid, error, consumed"
 fn platform_at(s: &[u8], at: usize) -> Platform
     requires { ⌜ at + model.platformSize ≤ length (now s) ⌝ }
     ensures { λ r. ⌜ r ≡ model.platformAt (drop at (now (s .entry))) ⌝ }
@@ -114,6 +117,7 @@ fn platform_at(s: &[u8], at: usize) -> Platform
     }
 }
 
+// "count; features; 16 entries ..", then the platform
 pub fn read_machine(s: &[u8]) -> Machine
     requires { ⌜ length (now s) ≡ model.machineSize ⌝ }
     ensures { λ r. ⌜ r ≡ model.machineAt (now (s .entry)) ⌝ }

@@ -1,5 +1,4 @@
-use lib.ListN.{getD}
-use Rattle.model.specs.Layout.{machineAt}
+use Rattle.layout.proofs.Read.{machine-read}
 use borrow.Author.Needs.{needs}
 use Rattle.layout.proofs.read_machine.Statement.{statement}
 use Rattle.layout.proofs.read_machine.Tie as tie
@@ -17,16 +16,9 @@ shared-slice-read-t7 : tie.Need-shared-slice-read-t7
 shared-slice-read-t7 c = search needs
 
 returns : tie.Need-returns
-unfolding machineAt
 returns c =
-    let s = c .before .before .before .before .before .args .s .now in
-    λ j.
-    record {
-      count = getD s 0 0;
-      features = getD s 1 0;
-      processors = c .before .before .before .entries .ensures j;
-      platform = c .before .before .platform-at .ensures j;
-    }
+    machine-read (c .before .before .before .before .before .args .s .now) (c .before .before .before .entries .ensures)
+    (c .before .before .platform-at .ensures)
 
 pub read-machine-spec : {M : Type 1} → statement M
 read-machine-spec =
