@@ -13,9 +13,8 @@ use Rattle.model.specs.Calls as model
 use Rattle.model.specs.Validity.{validCount, validFeatures}
 use Rattle.model.specs.Execution.{fresh, call, powerOn}
 use Rattle.model.specs.Layout.{machineSize, machineBytes, machineAt}
-use Rattle.model.specs.Lent.{Lent, powerOnLent, callLent}
-use Rattle.machine.specs.Form.{answerOf, outcomeOf}
-use Rattle.machine.specs.declared.Answer.{Answer}
+use Rattle.model.specs.Lent.{powerOnLent, callLent}
+use Rattle.machine.specs.Form.{outcomeOf}
 use Rattle.machine.specs.declared.Answer.the-variants.{Done, Refused}
 use Rattle.machine.specs.declared.Outcome.{Outcome}
 use Rattle.keylocker.specs.Form.{Called, called, calledOf, answered, finished}
@@ -56,7 +55,7 @@ module _ (block : List ℕ) (p : PowerOn) where
   power-on-given : calledOf (powerOnLent block p) ≡ given (eqb (length block) machineSize) accepted
   unfolding given
   power-on-given = ap (λ (t : Bool). called (cond (not t) 1 0) (cond (eqb (cond (not t) 1 0) 0) (machineBytes (fresh (p .count) (p .features))) block))
-    (and-assoc (eqb (length block) machineSize) (validCount (p .count)) (validFeatures (p .features)))
+      (and-assoc (eqb (length block) machineSize) (validCount (p .count)) (validFeatures (p .features)))
 
   pub power-on-short : (length block ≡ machineSize → ⊥) → called 1 block ≡ calledOf (powerOnLent block p)
   unfolding given
@@ -72,8 +71,10 @@ module _ (block : List ℕ) (p : PowerOn) where
       power t =
           cond (eqb (cond (not t) 1 0) 0) (record { machine = fresh (p .count) (p .features); answer = record { number = 0; cpu = []; buffer = []; value = 0 } })
           (record { machine = fresh 0 0; answer = record { number = cond (not t) 1 0; cpu = []; buffer = []; value = 0 } })
+
       by : (t : Bool) → finished block (outcomeOf (power t)) ≡ given true t
       by true = refl
       by false = refl
+
       go : (t : Bool) → accepted ≡ t → finished block (outcomeOf (power accepted)) ≡ given true accepted
       go t e = by accepted

@@ -1,10 +1,10 @@
 -- Register calls and steps that are done, by value.
 -- Assumes nothing.
-use mathlib.Core.Path.{_≡_, _∙_, refl, sym, ap, ap₂, subst}
-use mathlib.Core.Bool.{Bool, true, false, cond, _||_}
+use mathlib.Core.Path.{_≡_, _∙_, refl, sym, ap, ap₂}
+use mathlib.Core.Bool.{Bool, true, _||_}
 use mathlib.Core.List.{List, [], _∷_}
-use mathlib.Core.Option.{Option, some}
-use Prim.Native.Nat.{ℕ, suc, _+_, _%_, _<_, _≤_}
+use mathlib.Core.Option.{some}
+use Prim.Native.Nat.{ℕ, _%_}
 use native.Mathlib.Nat.{suc-ne-zero}
 use native.Mathlib.Omega.{arith}
 use lib.Dec.{eqb}
@@ -17,17 +17,18 @@ use Rattle.model.specs.Cpu.{cpuSize}
 use Rattle.model.specs.Records.{processorAt, noProcessor, withKey, withProcessors, withProcessor, withPlatform}
 use Rattle.model.specs.Validity.{valid}
 use Rattle.model.specs.Refusals.{randomLength, refusal}
-use Rattle.model.specs.Instructions.{Executed, executed}
+use Rattle.isa.specs.declared.Decoded.{Decoded}
+use Rattle.isa.specs.declared.Decoded.the-variants as decoded
+use Rattle.model.specs.Instructions.{Executed, stepped, executed}
+use Rattle.model.specs.declared.IwKey.{IwKey}
 use Rattle.model.specs.Backup.{Copied, registerRead, written}
 use Rattle.model.specs.Execution.{viewOf, refused, perform, call}
 use Rattle.model.specs.declared.Machine.{Machine}
 use Rattle.model.specs.declared.Processor.{Processor}
 use Rattle.model.proofs.Refusals.{processor-below}
 use Rattle.model.proofs.Validities.{count-few}
-use Rattle.machine.specs.Form.{answerOf, outcomeOf, steppedOf}
-use Rattle.machine.specs.declared.Answer.{Answer}
+use Rattle.machine.specs.Form.{outcomeOf, steppedOf}
 use Rattle.machine.specs.declared.Answer.the-variants.{Done, Refused}
-use Rattle.machine.specs.declared.Outcome.{Outcome}
 use Rattle.machine.specs.declared.Stepped.{Stepped}
 use Rattle.machine.proofs.Calls.{answer-refused, performed, doneWith}
 
@@ -67,7 +68,7 @@ module _ (m : Machine) (v : valid m ≡ true) where
       let p = below-16 m (step s) (s .processor) v a refl in
       let same : e ≡ processorAt m (s .processor) = q ∙ ap (λ (k : ℕ). getD (m .processors) k noProcessor) p in
       let to : ℕ → Executed → Processor → Stepped =
-        λ k z d. record { machine = withProcessors (set (m .processors) k (withKey (z .key) d)) m; answer = Done; cpu = z .cpu } in
+      λ k z d. record { machine = withProcessors (set (m .processors) k (withKey (z .key) d)) m; answer = Done; cpu = z .cpu } in
       ap₂ (λ (k : ℕ) (z : Executed). to k z e) p y
       ∙ ap (λ (d : Processor). to (s .processor) (executed s (d .key)) d) same
       ∙ sym (ap steppedOf (performed m (step s) v a))
@@ -76,11 +77,11 @@ pub step-refused : (m : Machine) (s : StepCall) (n : ℕ) → (n ≡ 0 → ⊥) 
     → record { machine = m; answer = Refused n; cpu = replicate cpuSize 0 } ≡ steppedOf (call m (step s))
 step-refused m s n h e =
     (λ j.
-      record {
-        machine = m;
-        answer = sym (answer-refused n h) j;
-        cpu = sym (cond-off (ne-eqb n 0 h) (s .cpu) (replicate cpuSize 0)) j;
-      })
+    record {
+      machine = m;
+      answer = sym (answer-refused n h) j;
+      cpu = sym (cond-off (ne-eqb n 0 h) (s .cpu) (replicate cpuSize 0)) j;
+    })
     ∙ ap steppedOf (sym e)
 
 -- ---- random data
@@ -91,3 +92,19 @@ no-data (x ∷ s) e = absurd (suc-ne-zero (length s) e)
 
 pub all-data : (n : ℕ) → randomLength n ≡ true → (n ≡ 0 → ⊥) → n ≡ 48
 all-data n r h = eqb-true n 48 (sym (ap (λ (b : Bool). b || eqb n 48) (ne-eqb n 0 h)) ∙ r)
+
+-- ---- the instruction of a string
+
+-- what a step reads, told by what was lent
+pub executed-as : (s : StepCall) (k : IwKey) (cpu random : List ℕ) (d : Decoded) → cpu ≡ s .cpu → random ≡ s .random → d ≡ decode (s .string)
+    → stepped (record { processor = 0; cpu = cpu; memory = s .memory; random = random; string = [] }) k d ≡ executed s k
+unfolding executed
+executed-as s k cpu random d p q e =
+    ap₂ (λ (c r : List ℕ). stepped (record { processor = 0; cpu = c; memory = s .memory; random = r; string = [] }) k d) p q
+    ∙ same d
+    ∙ ap (stepped s k) e
+  where
+    same : (d : Decoded) → stepped (record { processor = 0; cpu = s .cpu; memory = s .memory; random = s .random; string = [] }) k d ≡ stepped s k d
+    same (decoded.Found what lock bytes) = refl
+    same decoded.BadByte = refl
+    same decoded.EndOfString = refl

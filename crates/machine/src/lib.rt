@@ -241,7 +241,10 @@ fn random_of(random: &[u8]) -> Random
 {
     let mut bytes = [0u8; 48];
     if random.len() == 0 {
-        return Random { ready: false, bytes };
+        return Random {
+            ready: false,
+            bytes,
+        };
     }
     for i in 0..48usize {
         bytes[i] = random[i];
@@ -310,7 +313,15 @@ pub fn step(
         return refused_step(m, 1);
     }
     let d = decode(string);
-    let n = step_refusal(m.count, m.features, processor, cpu, memory.len(), random.len(), d);
+    let n = step_refusal(
+        m.count,
+        m.features,
+        processor,
+        cpu,
+        memory.len(),
+        random.len(),
+        d,
+    );
     if n != 0 {
         return refused_step(m, n);
     }

@@ -1,9 +1,6 @@
 use borrow.Author.Needs.{needs}
 use Rattle.instructions.proofs.encoded.Statement.{statement}
 use Rattle.instructions.proofs.encoded.Tie as tie
-use Rattle.instructions.proofs.encoded.Reads as reads
-use Rattle.instructions.proofs.encoded.Lts as lts
-use Rattle.encodekey.proofs.encode.Reads as encode-reads
 
 encode-requires : tie.Need-encode-requires
 encode-requires c κs = search needs

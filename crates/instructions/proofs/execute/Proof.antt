@@ -1,18 +1,11 @@
-use mathlib.Core.Path.{_≡_, _∙_, refl, sym, ap}
-use mathlib.Core.Option.{some}
+use mathlib.Core.Path.{_∙_, sym, ap}
 use Rattle.isa.specs.declared.Instruction.{Instruction}
 use Rattle.loadiwkey.specs.Form.{randomData}
-use Rattle.model.specs.Forms.{Form, formOf, single, wide}
+use Rattle.model.specs.Forms.{formOf, single, wide}
 use Rattle.model.specs.Instructions as model
 use borrow.Author.Needs.{needs}
 use Rattle.instructions.proofs.execute.Statement.{statement}
 use Rattle.instructions.proofs.execute.Tie as tie
-use Rattle.instructions.proofs.execute.Reads as reads
-use Rattle.instructions.proofs.execute.Lts as lts
-use Rattle.instructions.proofs.encoded.Reads as encoded-reads
-use Rattle.instructions.proofs.single.Reads as single-reads
-use Rattle.instructions.proofs.wide.Reads as wide-reads
-use Rattle.loadiwkey.proofs.load.Reads as load-reads
 
 enum-known-what : tie.Need-enum-known-what
 enum-known-what c = search needs

@@ -10,11 +10,6 @@ use Rattle.model.specs.Instructions.{ciphered, openedFor, used}
 use borrow.Author.Needs.{needs}
 use Rattle.instructions.proofs.single.Statement.{statement}
 use Rattle.instructions.proofs.single.Tie as tie
-use Rattle.instructions.proofs.single.Reads as reads
-use Rattle.instructions.proofs.single.Lts as lts
-use Rattle.aeskl.proofs.use_single.Reads as use-single-reads
-use Rattle.instructions.proofs.handle_at.Reads as handle-at-reads
-use Rattle.refusals.proofs.handle_address.Reads as handle-address-reads
 
 slice-aggregate-handle-address : tie.Need-slice-aggregate-handle-address
 slice-aggregate-handle-address c = search needs

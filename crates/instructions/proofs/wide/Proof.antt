@@ -10,11 +10,6 @@ use Rattle.model.specs.Instructions.{ciphered, openedFor, used}
 use borrow.Author.Needs.{needs}
 use Rattle.instructions.proofs.wide.Statement.{statement}
 use Rattle.instructions.proofs.wide.Tie as tie
-use Rattle.instructions.proofs.wide.Reads as reads
-use Rattle.instructions.proofs.wide.Lts as lts
-use Rattle.aeskl.proofs.use_wide.Reads as use-wide-reads
-use Rattle.instructions.proofs.handle_at.Reads as handle-at-reads
-use Rattle.refusals.proofs.handle_address.Reads as handle-address-reads
 
 slice-aggregate-handle-address : tie.Need-slice-aggregate-handle-address
 slice-aggregate-handle-address c = search needs

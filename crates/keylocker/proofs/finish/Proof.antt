@@ -1,12 +1,8 @@
 use mathlib.Core.Path.{_∙_, sym, ap}
-use Rattle.machine.specs.declared.Answer.{Answer}
 use Rattle.keylocker.specs.Form.{called, answered}
 use borrow.Author.Needs.{needs}
 use Rattle.keylocker.proofs.finish.Statement.{statement}
 use Rattle.keylocker.proofs.finish.Tie as tie
-use Rattle.keylocker.proofs.finish.Reads as reads
-use Rattle.keylocker.proofs.finish.Lts as lts
-use Rattle.layout.proofs.write_machine.Reads as write-machine-reads
 
 enum-known-answer : tie.Need-enum-known-answer
 enum-known-answer c = search needs

@@ -3,10 +3,6 @@ use Rattle.keylocker.proofs.Finishing.{power-on-short, power-on-called}
 use borrow.Author.Needs.{needs}
 use Rattle.keylocker.proofs.keylocker_power_on.Statement.{statement}
 use Rattle.keylocker.proofs.keylocker_power_on.Tie as tie
-use Rattle.keylocker.proofs.keylocker_power_on.Reads as reads
-use Rattle.keylocker.proofs.keylocker_power_on.Lts as lts
-use Rattle.keylocker.proofs.finish.Reads as finish-reads
-use Rattle.machine.proofs.power_on.Reads as power-on-reads
 
 returns : tie.Need-returns
 returns c =

@@ -2,9 +2,6 @@ use Rattle.machine.specs.declared.Answer.the-variants.{Done}
 use borrow.Author.Needs.{needs}
 use Rattle.machine.proofs.done_step.Statement.{statement}
 use Rattle.machine.proofs.done_step.Tie as tie
-use Rattle.machine.proofs.done_step.Reads as reads
-use Rattle.machine.proofs.done_step.Lts as lts
-use Rattle.machine.proofs.with_processor.Reads as with-processor-reads
 
 with-processor-requires : tie.Need-with-processor-requires
 with-processor-requires c κs = search needs

@@ -1,16 +1,11 @@
-use mathlib.Core.Path.{_≡_, _∙_, refl, sym, ap}
+use mathlib.Core.Path.{_∙_, sym, ap}
 use mathlib.Core.List.{[]}
-use Rattle.isa.specs.declared.Decoded.{Decoded}
 use Rattle.loadiwkey.specs.Form.{randomData}
 use Rattle.model.specs.Calls.{StepCall}
 use Rattle.model.specs.Instructions as model
 use borrow.Author.Needs.{needs}
 use Rattle.machine.proofs.executed.Statement.{statement}
 use Rattle.machine.proofs.executed.Tie as tie
-use Rattle.machine.proofs.executed.Reads as reads
-use Rattle.machine.proofs.executed.Lts as lts
-use Rattle.instructions.proofs.advance.Reads as advance-reads
-use Rattle.instructions.proofs.execute.Reads as execute-reads
 
 enum-known-d : tie.Need-enum-known-d
 enum-known-d c = search needs
@@ -31,7 +26,7 @@ enum-told-2 c = search needs
 returns : tie.Need-returns
 returns c =
     let a = c .before .before .before .before .before .before .before .before .args in
-    let s : StepCall = record { processor = 0; cpu = a .t5; memory = a .memory .now; random = randomData (a .random); string = [] } in
+    let s : StepCall = record { processor = 0; cpu = a .cpu; memory = a .memory .now; random = randomData (a .random); string = [] } in
     let bytes = c .before .before .before .before .before .d .given .0 .1 .1 .0 in
     let x = c .before .before .before .execute .ensures in
     (λ j. record { key = x j .key; cpu = (c .advance .ensures ∙ ap (λ (y : model.Executed). model.advanced bytes (y .cpu)) x) j })
@@ -40,13 +35,13 @@ returns c =
 returns-2 : tie.Need-returns-2
 returns-2 c =
     let a = c .before .before .before .args in
-    let s : StepCall = record { processor = 0; cpu = a .t5; memory = a .memory .now; random = randomData (a .random); string = [] } in
+    let s : StepCall = record { processor = 0; cpu = a .cpu; memory = a .memory .now; random = randomData (a .random); string = [] } in
     ap (model.stepped s (a .k)) (sym (c .enum-told .given .1))
 
 returns-3 : tie.Need-returns-3
 returns-3 c =
     let a = c .before .before .before .args in
-    let s : StepCall = record { processor = 0; cpu = a .t5; memory = a .memory .now; random = randomData (a .random); string = [] } in
+    let s : StepCall = record { processor = 0; cpu = a .cpu; memory = a .memory .now; random = randomData (a .random); string = [] } in
     ap (model.stepped s (a .k)) (sym (c .enum-told2 .given .1))
 
 pub executed-spec : {M : Type 1} → statement M

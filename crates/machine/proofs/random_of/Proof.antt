@@ -11,8 +11,6 @@ use Rattle.bits.proofs.Lists.{filled}
 use Rattle.machine.proofs.Steps.{no-data, all-data}
 use Rattle.machine.proofs.random_of.Statement.{statement}
 use Rattle.machine.proofs.random_of.Tie as tie
-use Rattle.machine.proofs.random_of.Reads as reads
-use Rattle.machine.proofs.random_of.Lts as lts
 
 abbrev Inv-loop : tie.InvT-loop
 Inv-loop random bytes₀ i₀ bytes i = (i ≤ 48) × (length bytes ≡ 48) × ((k : ℕ) → k < i → getD bytes k 0 ≡ getD random k 0)

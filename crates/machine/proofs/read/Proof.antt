@@ -1,22 +1,13 @@
-use mathlib.Core.Path.{_≡_, _∙_, refl, sym, ap}
+use mathlib.Core.Path.{_∙_, sym}
 use native.Mathlib.Nat.{suc-ne-zero}
 use borrow.Author.Tests.{not-true, not-false}
 use Rattle.model.specs.Calls as calls
-use Rattle.model.specs.Records.{withPlatform}
-use Rattle.model.specs.declared.Machine.{Machine}
-use Rattle.machine.proofs.Calls.{doneWith, not-valid, stopped, outcome-refused}
-use Rattle.machine.proofs.Steps.{read-done, write-done}
+use Rattle.machine.proofs.Calls.{not-valid, stopped, outcome-refused}
+use Rattle.machine.proofs.Steps.{read-done}
 use Rattle.machine.specs.declared.Answer.the-variants.{Done}
 use borrow.Author.Needs.{needs}
 use Rattle.machine.proofs.read.Statement.{statement}
 use Rattle.machine.proofs.read.Tie as tie
-use Rattle.machine.proofs.read.Reads as reads
-use Rattle.machine.proofs.read.Lts as lts
-use Rattle.machine.proofs.processor_at.Reads as processor-at-reads
-use Rattle.machine.proofs.refused.Reads as refused-reads
-use Rattle.platform.proofs.read_register.Reads as read-register-reads
-use Rattle.refusals.proofs.read_refusal.Reads as read-refusal-reads
-use Rattle.validity.proofs.valid.Reads as valid-reads
 
 valid-requires : tie.Need-valid-requires
 valid-requires c κs = search needs

@@ -1,24 +1,15 @@
-use mathlib.Core.Path.{_≡_, _∙_, refl, sym, ap}
+use mathlib.Core.Path.{_∙_, sym, ap}
 use native.Mathlib.Nat.{suc-ne-zero}
 use borrow.Author.Tests.{not-true, not-false}
 use Rattle.model.specs.Calls as calls
 use Rattle.model.specs.Records.{withPlatform}
 use Rattle.model.specs.declared.Machine.{Machine}
 use Rattle.machine.proofs.Calls.{doneWith, not-valid, stopped, outcome-refused}
-use Rattle.machine.proofs.Steps.{read-done, write-done}
+use Rattle.machine.proofs.Steps.{write-done}
 use Rattle.platform.specs.Form.{copiedOf}
 use borrow.Author.Needs.{needs}
 use Rattle.machine.proofs.write.Statement.{statement}
 use Rattle.machine.proofs.write.Tie as tie
-use Rattle.machine.proofs.write.Reads as reads
-use Rattle.machine.proofs.write.Lts as lts
-use Rattle.machine.proofs.done.Reads as done-reads
-use Rattle.machine.proofs.processor_at.Reads as processor-at-reads
-use Rattle.machine.proofs.refused.Reads as refused-reads
-use Rattle.machine.proofs.with_processor.Reads as with-processor-reads
-use Rattle.platform.proofs.write_register.Reads as write-register-reads
-use Rattle.refusals.proofs.write_refusal.Reads as write-refusal-reads
-use Rattle.validity.proofs.valid.Reads as valid-reads
 
 valid-requires : tie.Need-valid-requires
 valid-requires c κs = search needs
