@@ -1,13 +1,16 @@
 -- What a C call gives: its number, and what it leaves in the lent bytes.
 -- Assumes nothing.
+use mathlib.Core.Bool.{cond}
 use mathlib.Core.List.{List}
 use Prim.Native.Nat.{ℕ}
+use lib.Dec.{eqb}
 use Rattle.model.specs.Lent.{Lent}
 use Rattle.model.specs.Layout.{machineBytes}
 use Rattle.model.specs.declared.Machine.{Machine}
 use Rattle.machine.specs.declared.Answer.{Answer}
 use Rattle.machine.specs.declared.Answer.the-variants.{Done, Refused}
 use Rattle.machine.specs.declared.Outcome.{Outcome}
+use Rattle.machine.specs.declared.Stepped.{Stepped}
 
 -- the number that is returned, and the machine's bytes at exit
 pub record Called : Type 0 where
@@ -28,3 +31,39 @@ answered block m (Refused n) = called n block
 
 abbrev pub finished : List ℕ → Outcome → Called
 finished block o = answered block (o .machine) (o .answer)
+
+-- ---- a read: the value is written where the call is not refused, and the machine never
+
+pub record ReadCalled : Type 0 where
+  pub number : ℕ
+  pub value : ℕ
+
+abbrev pub readCalled : ℕ → ℕ → ReadCalled
+readCalled n v = record { number = n; value = v }
+
+abbrev pub readCalledOf : ℕ → Lent → ReadCalled
+readCalledOf old l = readCalled (l .answer .number) (cond (eqb (l .answer .number) 0) (l .answer .value) old)
+
+abbrev pub readAnswered : ℕ → ℕ → Answer → ReadCalled
+readAnswered old v Done = readCalled 0 v
+readAnswered old v (Refused n) = readCalled n old
+
+-- ---- a step: the CPU record is lent too
+
+pub record StepCalled : Type 0 where
+  pub number : ℕ
+  pub block : List ℕ
+  pub cpu : List ℕ
+
+abbrev pub stepCalled : ℕ → List ℕ → List ℕ → StepCalled
+stepCalled n b c = record { number = n; block = b; cpu = c }
+
+abbrev pub stepCalledOf : Lent → StepCalled
+stepCalledOf l = stepCalled (l .answer .number) (l .block) (l .answer .cpu)
+
+abbrev pub stepAnswered : List ℕ → List ℕ → Machine → List ℕ → Answer → StepCalled
+stepAnswered block cpu m c Done = stepCalled 0 (machineBytes m) c
+stepAnswered block cpu m c (Refused n) = stepCalled n block cpu
+
+abbrev pub stepFinished : List ℕ → List ℕ → Stepped → StepCalled
+stepFinished block cpu o = stepAnswered block cpu (o .machine) (o .cpu) (o .answer)

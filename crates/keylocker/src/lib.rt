@@ -1,14 +1,17 @@
 // The calls for C: the machine is lent as 924 bytes. Each answers 0, or the number of the refusal, which leaves every lent byte.
 ghost use mathlib.Core.Path.{_≡_};
 ghost use lib.ListN.{length};
-ghost use Rattle.model.specs.Calls.{settle, sleep, reset};
+ghost use Rattle.model.specs.Calls.{step, read, write, settle, sleep, reset};
+ghost use Rattle.model.specs.Cpu.{cpuSize};
 ghost use Rattle.model.specs.Layout.{machineSize};
 ghost use Rattle.model.specs.Lent.{powerOnLent, callLent};
-ghost use Rattle.keylocker.specs.Form.{called, calledOf, finished};
+ghost use Rattle.keylocker.specs.Form.{called, calledOf, finished, readCalled, readCalledOf, stepCalled, stepCalledOf, stepFinished};
+ghost use Rattle.machine.specs.declared.Answer.the-variants.{Done};
 use layout::read_machine;
 use layout::write_machine;
 use machine::Answer;
 use machine::Outcome;
+use machine::Stepped;
 
 fn finish(block: &mut [u8], o: Outcome) -> u32
     requires { ⌜ length (now block) ≡ machineSize ⌝ }
@@ -66,4 +69,97 @@ pub extern "C" fn keylocker_reset(machine: &mut [u8]) -> u32
     }
     let m = read_machine(machine);
     finish(machine, machine::reset(m))
+}
+
+// ---- the backup registers
+
+// The machine is not written, and the value only where the answer is 0.
+#[no_mangle]
+pub extern "C" fn keylocker_read(
+    machine: &[u8],
+    processor: u8,
+    cpl: u8,
+    address: u32,
+    value: &mut u64,
+) -> u32
+    ensures { λ r. ⌜ readCalled r (now (value .exit)) ≡ readCalledOf (now (value .entry)) (callLent (now (machine .entry)) (read (record { processor = processor; cpl = cpl; address = address }))) ⌝ }
+{
+    if machine.len() != 924 {
+        return 1;
+    }
+    let m = read_machine(machine);
+    let o = machine::read(m, processor, cpl, address);
+    let answer = o.answer;
+    match answer {
+        Answer::Refused(n) => n as u32,
+        Answer::Done => {
+            *value = o.value;
+            0
+        }
+    }
+}
+
+#[no_mangle]
+pub extern "C" fn keylocker_write(
+    machine: &mut [u8],
+    processor: u8,
+    cpl: u8,
+    address: u32,
+    value: u64,
+) -> u32
+    ensures { λ r. ⌜ called r (now (machine .exit)) ≡ calledOf (callLent (now (machine .entry)) (write (record { processor = processor; cpl = cpl; address = address; value = value }))) ⌝ }
+{
+    if machine.len() != 924 {
+        return 1;
+    }
+    let m = read_machine(machine);
+    finish(machine, machine::write(m, processor, cpl, address, value))
+}
+
+// ---- step
+
+fn put_record(cpu: &mut [u8], c: [u8; 408])
+    requires { ⌜ length (now cpu) ≡ cpuSize ⌝ }
+    ensures { λ _. ⌜ now (cpu .exit) ≡ c ⌝ }
+{
+    for i in 0..408usize {
+        cpu[i] = c[i];
+    }
+}
+
+fn finish_step(block: &mut [u8], cpu: &mut [u8], o: Stepped) -> u32
+    requires { ⌜ length (now block) ≡ machineSize ⌝ }
+    requires { ⌜ (o .answer ≡ Done → length (now cpu) ≡ cpuSize) ⌝ }
+    ensures { λ r. ⌜ stepCalled r (now (block .exit)) (now (cpu .exit)) ≡ stepFinished (now (block .entry)) (now (cpu .entry)) o ⌝ }
+{
+    let answer = o.answer;
+    match answer {
+        Answer::Refused(n) => n as u32,
+        Answer::Done => {
+            let m = o.machine;
+            let c = o.cpu;
+            write_machine(block, m);
+            put_record(cpu, c);
+            0
+        }
+    }
+}
+
+#[no_mangle]
+pub extern "C" fn keylocker_step(
+    machine: &mut [u8],
+    processor: u8,
+    cpu: &mut [u8],
+    memory: &[u8],
+    random: &[u8],
+    string: &[u8],
+) -> u32
+    ensures { λ r. ⌜ stepCalled r (now (machine .exit)) (now (cpu .exit)) ≡ stepCalledOf (callLent (now (machine .entry)) (step (record { processor = processor; cpu = now (cpu .entry); memory = now (memory .entry); random = now (random .entry); string = now (string .entry) }))) ⌝ }
+{
+    if machine.len() != 924 {
+        return 1;
+    }
+    let m = read_machine(machine);
+    let o = machine::step(m, processor, cpu, memory, random, string);
+    finish_step(machine, cpu, o)
 }

@@ -1,0 +1,59 @@
+use mathlib.Core.Path.{_∙_, sym, ap}
+use Rattle.model.specs.Calls as model
+use Rattle.model.specs.Execution.{call}
+use Rattle.model.specs.declared.Machine.{Machine}
+use Rattle.machine.specs.Form.{outcomeOf}
+use Rattle.keylocker.specs.Form.{readAnswered}
+use Rattle.keylocker.proofs.Finishing.{read-short, read-called}
+use borrow.Author.Needs.{needs}
+use Rattle.keylocker.proofs.keylocker_read.Statement.{statement}
+use Rattle.keylocker.proofs.keylocker_read.Tie as tie
+
+returns : tie.Need-returns
+returns c =
+    let a = c .before .before .args in
+    read-short (a .machine .now) (model.read (record { processor = a .processor; cpl = a .cpl; address = a .address })) (a .value .now) (c .if1 .taken)
+
+read-machine-requires : tie.Need-read-machine-requires
+read-machine-requires c κs = search needs
+
+read-requires : tie.Need-read-requires
+read-requires c κs = search needs
+
+enum-known-answer : tie.Need-enum-known-answer
+enum-known-answer c = search needs
+
+cast-result : tie.Need-cast-result
+cast-result c = search needs
+
+enum-told : tie.Need-enum-told
+enum-told c = search needs
+
+returns-2 : tie.Need-returns-2
+returns-2 c =
+    let a = c .before .before .before .before .before .before .before .args in
+    let o = c .before .before .before .read .result in
+    ap (readAnswered (a .value .now) (o .value)) (sym (c .before .answer .given .1))
+    ∙ read-called (a .machine .now) (model.read (record { processor = a .processor; cpl = a .cpl; address = a .address })) (a .value .now) o (search needs)
+    (c .before .before .before .read .ensures ∙ ap (λ (m : Machine). outcomeOf (call m (model.read (record { processor = a .processor; cpl = a .cpl; address = a .address })))) (c .before .before .before .before .read-machine .ensures))
+
+returns-3 : tie.Need-returns-3
+returns-3 c =
+    let a = c .before .before .before .before .before .before .args in
+    let o = c .before .before .read .result in
+    ap (readAnswered (a .value .now) (o .value)) (sym (c .enum-told .given .1))
+    ∙ read-called (a .machine .now) (model.read (record { processor = a .processor; cpl = a .cpl; address = a .address })) (a .value .now) o (search needs)
+    (c .before .before .read .ensures ∙ ap (λ (m : Machine). outcomeOf (call m (model.read (record { processor = a .processor; cpl = a .cpl; address = a .address })))) (c .before .before .before .read-machine .ensures))
+
+pub keylocker-read-spec : {M : Type 1} → statement M
+keylocker-read-spec =
+    tie.close
+    (tie.spec
+    returns
+    read-machine-requires
+    read-requires
+    enum-known-answer
+    cast-result
+    enum-told
+    returns-2
+    returns-3)

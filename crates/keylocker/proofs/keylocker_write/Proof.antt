@@ -1,0 +1,38 @@
+use mathlib.Core.Path.{_∙_, ap}
+use Rattle.model.specs.Calls as model
+use Rattle.model.specs.Execution.{call}
+use Rattle.model.specs.declared.Machine.{Machine}
+use Rattle.machine.specs.Form.{outcomeOf}
+use Rattle.keylocker.proofs.Finishing.{short-block, called-of}
+use borrow.Author.Needs.{needs}
+use Rattle.keylocker.proofs.keylocker_write.Statement.{statement}
+use Rattle.keylocker.proofs.keylocker_write.Tie as tie
+
+returns : tie.Need-returns
+returns c =
+    let a = c .before .before .args in
+    short-block (a .machine .now) (model.write (record { processor = a .processor; cpl = a .cpl; address = a .address; value = a .value })) (c .if1 .taken)
+
+read-machine-requires : tie.Need-read-machine-requires
+read-machine-requires c κs = search needs
+
+write-requires : tie.Need-write-requires
+write-requires c κs = search needs
+
+finish-requires : tie.Need-finish-requires
+finish-requires c κs = search needs
+
+same-length : tie.Need-same-length
+same-length c = search needs
+
+returns-2 : tie.Need-returns-2
+returns-2 c =
+    let a = c .before .before .before .before .before .before .before .before .before .args in
+    c .before .before .finish .ensures
+    ∙ called-of (a .machine .now) (model.write (record { processor = a .processor; cpl = a .cpl; address = a .address; value = a .value })) (c .before .before .before .write .result) (search needs)
+    (c .before .before .before .write .ensures ∙ ap (λ (m : Machine). outcomeOf (call m (model.write (record { processor = a .processor; cpl = a .cpl; address = a .address; value = a .value })))) (c .before .before .before .before .before .read-machine .ensures))
+
+pub keylocker-write-spec : {M : Type 1} → statement M
+keylocker-write-spec =
+    tie.close
+    (tie.spec returns read-machine-requires write-requires finish-requires same-length returns-2)
