@@ -19,7 +19,7 @@ fn finish(block: &mut [u8], o: Outcome) -> u32
 {
     let answer = o.answer;
     match answer {
-        Answer::Refused(n) => n as u32,
+        Answer::Refused(number) => number as u32,
         Answer::Done => {
             let m = o.machine;
             write_machine(block, m);
