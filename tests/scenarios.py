@@ -78,7 +78,8 @@ class Script:
     def line(self, name, kind, number, said, machine, **fields):
         assert " " not in name
         self.stdin.append(stdin_line(name, kind, **fields))
-        self.stdout.append(f"{name} {kind}{'' if number is None else f' {number}'}{said}{changes(' machine', self.machine, machine)}")
+        number_said = "" if number is None else f" {number}"
+        self.stdout.append(f"{name} {kind}{number_said}{said}{changes(' machine', self.machine, machine)}")
         self.machine = machine
         return number
 
@@ -91,7 +92,8 @@ class Script:
             number, result = refused.number, bytes(model.MACHINE_SIZE) if kind == "power-on" else self.machine
         self.value = result if kind == "read" and number == 0 else 0
         machine = self.machine if kind == "read" else result
-        return self.line(name, kind, number, f" value {self.value}" if number == 0 else "", machine, **fields)
+        said = f" value {self.value}" if kind == "read" and number == 0 else ""
+        return self.line(name, kind, number, said, machine, **fields)
 
     def power_on(self, name, count=16, features=model.ALL_FEATURES):
         return self.plain(name, "power-on", lambda: model.power_on(count, features), x=count, y=features)

@@ -1,6 +1,7 @@
 // A call's bytes: its kind, a processor (or the count, or a code), a CPL (or the features), one left free, an address (4 bytes) and a value (8), the
 // lengths of CPU record, memory, random data and string (2 each), numbers with the highest byte first. From 24 on the CPU record, from 440 the
 // memory, from 696 the random data, from 760 the string; or from 24 on a machine record, which takes the place of the machine at hand.
+// Kinds are those of print_kind.
 ghost use mathlib.Core.Path.{_≡_};
 ghost use Prim.Native.Nat.{_≤_};
 ghost use lib.ListN.{length};
@@ -60,7 +61,7 @@ fn other(m: Machine, a: [u8; 960]) -> Machine {
     let o = outcome(m, a);
     let after = o.machine;
     let answer = o.answer;
-    if print_answer(answer) {
+    if print_answer(answer) & (a[0] == 1) {
         print(b" value ");
         print_decimal(o.value);
     }
