@@ -1,0 +1,141 @@
+// A call's bytes: its kind, a processor (or the count, or a code), a CPL (or the features), one left free, an address (4 bytes) and a value (8), the
+// lengths of CPU record, memory, random data and string (2 each), numbers with the highest byte first. From 24 on the CPU record, from 440 the
+// memory, from 696 the random data, from 760 the string; or from 24 on a machine record, which takes the place of the machine at hand.
+// Kinds are those of print_kind.
+ghost use mathlib.Core.Path.{_≡_};
+ghost use Prim.Native.Nat.{_≤_};
+ghost use lib.ListN.{length};
+use crate::line::bytes;
+use crate::line::find;
+use crate::print::print;
+use crate::print::print_answer;
+use crate::print::print_changes;
+use crate::print::print_decimal;
+use crate::print::print_word;
+use crate::print::word;
+use layout::read_machine;
+use layout::write_machine;
+use machine::Outcome;
+use machine::Stepped;
+use model::Machine;
+
+fn print_kind(kind: u8) {
+    match kind {
+        0 => print(b" power-on"),
+        1 => print(b" read"),
+        2 => print(b" write"),
+        3 => print(b" settle"),
+        4 => print(b" sleep"),
+        5 => print(b" reset"),
+        6 => print(b" step"),
+        _ => print(b" lend"),
+    }
+}
+
+fn print_machine(before: Machine, after: Machine) {
+    let mut old = [0u8; 924];
+    let mut new = [0u8; 924];
+    write_machine(&mut old, before);
+    write_machine(&mut new, after);
+    print_changes(b" machine", &old, &new);
+    print(b"\n");
+}
+
+// All calls but step.
+fn outcome(m: Machine, a: [u8; 960]) -> Outcome {
+    let x = a[1];
+    let y = a[2];
+    let address = word(&a, 4);
+    let value = word(&a, 8) as u64 * 4294967296 + word(&a, 12) as u64;
+    match a[0] {
+        0 => machine::power_on(x, y),
+        1 => machine::read(m, x, y, address),
+        2 => machine::write(m, x, y, address, value),
+        3 => machine::settle(m, x),
+        4 => machine::sleep(m, x),
+        _ => machine::reset(m),
+    }
+}
+
+fn other(m: Machine, a: [u8; 960]) -> Machine {
+    let o = outcome(m, a);
+    let after = o.machine;
+    let answer = o.answer;
+    if print_answer(answer) & (a[0] == 1) {
+        print(b" value ");
+        print_decimal(o.value);
+    }
+    print_machine(m, after);
+    after
+}
+
+// Two bytes as a length, at most what there is room for.
+fn length_at(a: &[u8], at: usize, most: usize) -> usize
+    ensures { λ r. ⌜ r ≤ most ⌝ }
+{
+    let n = (word(a, at) / 65536) as usize;
+    if n < most {
+        return n;
+    }
+    most
+}
+
+// ZF, XMM0, and all that changed.
+fn print_cpu(old: &[u8], new: &[u8]) {
+    print(b" zf ");
+    print_decimal(word(new, 392) as u64 / 1073741824 % 2);
+    print(b" xmm0 ");
+    print_word(word(new, 0));
+    print_word(word(new, 4));
+    print_word(word(new, 8));
+    print_word(word(new, 12));
+    print_changes(b" cpu", old, new);
+}
+
+fn step(m: Machine, a: &[u8]) -> Machine
+    requires { ⌜ length (now a) ≡ 960 ⌝ }
+{
+    let c = 24 + length_at(a, 16, 416);
+    let d = 440 + length_at(a, 18, 256);
+    let e = 696 + length_at(a, 20, 64);
+    let f = 760 + length_at(a, 22, 64);
+    let x = machine::step(m, a[1], &a[24..c], &a[440..d], &a[696..e], &a[760..f]);
+    let after = x.machine;
+    let answer = x.answer;
+    let cpu = x.cpu;
+    if print_answer(answer) {
+        print_cpu(&a[24..c], &cpu);
+    }
+    print_machine(m, after);
+    after
+}
+
+// The machine after the call of a line.
+fn call(m: Machine, text: &[u8]) -> Machine {
+    let n = find(text, 0, b' ');
+    print(&text[0..n]);
+    let a = bytes(&text[n..]);
+    print_kind(a[0]);
+    match a[0] {
+        0..=5 => other(m, a),
+        6 => step(m, &a),
+        _ => {
+            let after = read_machine(&a[24..948]);
+            print_machine(m, after);
+            after
+        }
+    }
+}
+
+// The calls, line by line, on one machine.
+pub fn all(text: &[u8]) {
+    let o = machine::power_on(0, 0);
+    let mut m = o.machine;
+    let mut at: usize = 0;
+    while at < text.len() {
+        let end = find(text, at, b'\n');
+        let next = call(m, &text[at..end]);
+        m = next;
+        at = end + 1;
+    }
+}

@@ -1,0 +1,401 @@
+"""A second model of the whole emulated machine, beside the proved one, to derive what test programs have to write.
+
+It is written from the scope (see docs/DECISIONS.md) and from nothing under crates/, in the scope's order and for reading. The machine record is
+its 924 bytes and the CPU record its 408; a call gives what it leaves, or raises Refused with the number of the refusal.
+"""
+
+import re
+from dataclasses import dataclass, field
+
+import decoder
+import key_locker
+
+# ---- records
+
+MACHINE_SIZE = 924
+CPU_SIZE = 408
+MEMORY_LIMIT = 1_048_576
+RANDOM_SIZE = 48
+PROCESSOR_LIMIT = 16
+
+# Bits of the feature byte.
+KL, FIRMWARE, WIDE, BACKUP, NO_BACKUP, RANDOM_SOURCE = (1 << n for n in range(6))
+ALL_FEATURES = 0x3F
+
+# Bits of the control byte.
+CR4_KL, CR4_OSFXSR, CR0_EM, CR0_TS = (1 << n for n in range(4))
+
+CF, PF, AF, ZF, SF, OF = (1 << n for n in [0, 2, 4, 6, 7, 11])
+SIX_FLAGS = CF | PF | AF | ZF | SF | OF
+
+WORD = 2**64
+
+
+class Refused(Exception):
+    @property
+    def number(self):
+        return self.args[0]
+
+
+def refuse_if(condition, number):
+    if condition:
+        raise Refused(number)
+
+
+@dataclass(frozen=True)
+class IWKey:
+    integrity: bytes = bytes(16)
+    encryption: bytes = bytes(32)
+    source: int = 0
+    no_backup: int = 0
+
+    def to_bytes(self):
+        return self.integrity + self.encryption + bytes([self.source, self.no_backup])
+
+    @staticmethod
+    def from_bytes(b):
+        return IWKey(b[:16], b[16:48], b[48], b[49])
+
+
+NO_KEY = IWKey()
+KEY_SIZE = len(NO_KEY.to_bytes())
+
+
+def slot_bytes(key):
+    """Backup or store: a presence byte and an IWKey, which is zero where it is absent."""
+    return bytes([0]) + NO_KEY.to_bytes() if key is None else bytes([1]) + key.to_bytes()
+
+
+@dataclass
+class Machine:
+    count: int
+    features: int
+    keys: list = field(default_factory=lambda: [NO_KEY] * PROCESSOR_LIMIT)
+    copy_status: list = field(default_factory=lambda: [0] * PROCESSOR_LIMIT)
+    backup: IWKey | None = None
+    store: IWKey | None = None
+    pending: int = 0
+    valid: int = 0
+    error: int = 0
+    consumed: int = 0
+
+    def to_bytes(self):
+        entries = b"".join(key.to_bytes() + bytes([status]) for key, status in zip(self.keys, self.copy_status))
+        bits = bytes([self.pending, self.valid, self.error, self.consumed])
+        return bytes([self.count, self.features]) + entries + slot_bytes(self.backup) + slot_bytes(self.store) + bits
+
+
+def flag(byte):
+    refuse_if(byte > 1, 1)
+    return byte
+
+
+def key_from(b):
+    key = IWKey.from_bytes(b)
+    refuse_if(key.source > 1 or key.no_backup > 1, 1)
+    return key
+
+
+def slot_from(b):
+    if flag(b[0]):
+        return key_from(b[1:])
+    refuse_if(any(b), 1)
+    return None
+
+
+def machine_from(b):
+    """The lent bytes taken apart, with refusal 1."""
+    refuse_if(len(b) != MACHINE_SIZE, 1)
+    m = Machine(count=b[0], features=b[1])
+    refuse_if(not 1 <= m.count <= PROCESSOR_LIMIT or m.features > ALL_FEATURES, 1)
+    for p in range(PROCESSOR_LIMIT):
+        entry = b[2 + (KEY_SIZE + 1) * p :][: KEY_SIZE + 1]
+        refuse_if(p >= m.count and any(entry), 1)
+        m.keys[p] = key_from(entry)
+        m.copy_status[p] = flag(entry[KEY_SIZE])
+    rest = b[2 + (KEY_SIZE + 1) * PROCESSOR_LIMIT :]
+    m.backup = slot_from(rest[: KEY_SIZE + 1])
+    m.store = slot_from(rest[KEY_SIZE + 1 :][: KEY_SIZE + 1])
+    m.pending, m.valid, m.error, m.consumed = map(flag, rest[2 * (KEY_SIZE + 1) :])
+    return m
+
+
+class Cpu:
+    """A CPU record that is being changed."""
+
+    def __init__(self, record=None):
+        self.bytes = bytearray(record or CPU_SIZE)
+
+    def number(self, at):
+        return int.from_bytes(self.bytes[at : at + 8], "little")
+
+    def set_number(self, at, value):
+        self.bytes[at : at + 8] = (value % WORD).to_bytes(8, "little")
+
+    def xmm(self, n):
+        return bytes(self.bytes[16 * n : 16 * n + 16])
+
+    def set_xmm(self, n, block):
+        assert len(block) == 16
+        self.bytes[16 * n : 16 * n + 16] = block
+
+    def register(self, n):
+        return self.number(256 + 8 * n)
+
+    def set_register(self, n, value):
+        self.set_number(256 + 8 * n, value)
+
+    rip = property(lambda self: self.number(384), lambda self, value: self.set_number(384, value))
+    rflags = property(lambda self: self.number(392), lambda self, value: self.set_number(392, value))
+    cpl = property(lambda self: self.bytes[400])
+    control = property(lambda self: self.bytes[401])
+
+    def set_flags(self, on):
+        """Of the six flags those of on are 1 and the others 0; other bits of RFLAGS are kept."""
+        self.rflags = self.rflags & ~SIX_FLAGS | on
+
+
+# ---- strings: the text that tests/decoder.py makes of them, taken apart
+
+
+@dataclass(frozen=True)
+class Instruction:
+    name: str  # without LOCK
+    lock: bool
+    operands: list
+    length: int
+
+    memory = property(lambda self: self.operands[-1])
+    wide = property(lambda self: "wide" in self.name)
+    use = property(lambda self: self.name.endswith("kl"))
+    encode = property(lambda self: self.name.startswith("encodekey"))
+    load = property(lambda self: self.name == "loadiwkey")
+    size = property(lambda self: 32 if "256" in self.name else 16)
+    encrypts = property(lambda self: self.name.startswith("aesenc"))
+
+
+def decode(string):
+    text = decoder.decode(string)
+    if refused := re.fullmatch("refused (.*)", text):
+        raise Refused(int(refused[1]))
+    found = re.fullmatch("(lock )?([a-z0-9]+) (.*) ; ([0-9]+) bytes", text)
+    return Instruction(found[2], bool(found[1]), found[3].split(", "), int(found[4]))
+
+
+def xmm_number(operand):
+    return decoder.XMM.index(operand)
+
+
+def r32_number(operand):
+    return decoder.R32.index(operand)
+
+
+def effective_address(cpu, instruction):
+    """The address, and whether it is in the stack segment."""
+    address, stack = 0, False
+    for sign, part in re.findall(r"([+-]?)([^+-]+)", instruction.memory[1:-1]):
+        if part.startswith("0x"):
+            address += int(sign + part, 16)
+        elif part == "rip":
+            address += cpu.rip + instruction.length
+        elif "*" in part:
+            index, scale = part.split("*")
+            address += cpu.register(decoder.R64.index(index)) * int(scale)
+        else:
+            address += cpu.register(decoder.R64.index(part))
+            stack = part in ["rsp", "rbp"]
+    return address % WORD, stack
+
+
+def canonical(address):
+    return address >> 47 in [0, 2**17 - 1]
+
+
+# ---- what a step is turned back for, from 10 on
+
+
+def undefined(m, cpu, i):
+    control = cpu.control
+    return (
+        i.lock
+        or not m.features & KL
+        or not control & CR4_KL
+        or control & CR0_EM
+        or not control & CR4_OSFXSR
+        or (not i.load and not m.features & FIRMWARE)
+        or (i.wide and not m.features & WIDE)
+    )
+
+
+def load_faults(m, cpu):
+    eax = cpu.register(0) % 2**32
+    no_backup, source = eax & 1, eax >> 1 & 15
+    return (
+        cpu.cpl > 0
+        or source > 1
+        or eax >> 5 != 0
+        or (no_backup and not m.features & NO_BACKUP)
+        or (source == 1 and not m.features & RANDOM_SOURCE)
+    )
+
+
+def handle_in(memory, cpu, i):
+    """The handle's bytes, or refusal 12, 13 or 14."""
+    address, stack = effective_address(cpu, i)
+    places = [(address + n) % WORD for n in range(32 + i.size)]
+    refuse_if(not all(map(canonical, places)), 13 if stack else 12)
+    refuse_if(any(place >= len(memory) for place in places), 14)
+    return bytes(memory[place] for place in places)
+
+
+# ---- what each instruction does
+
+
+def encode_key(m, processor, cpu, i):
+    destination, source = map(r32_number, i.operands)
+    aad = bytes([cpu.register(source) & 7, 0, 0, {16: 0, 32: 1}[i.size]]) + bytes(12)
+    key = (cpu.xmm(0) + cpu.xmm(1))[: i.size]
+    iwkey = m.keys[processor]
+    handle = key_locker.wrap(iwkey.integrity, iwkey.encryption, aad, key)
+    for n in range(len(handle) // 16):
+        cpu.set_xmm(n, handle[16 * n : 16 * n + 16])
+    for n in [4, 5, 6]:
+        cpu.set_xmm(n, bytes(16))
+    cpu.set_register(destination, iwkey.no_backup + 2 * iwkey.source)
+    cpu.set_flags(0)
+
+
+def legal(aad, cpl, i):
+    bits = int.from_bytes(aad, "little")
+    cpl_0_only, no_encryption, no_decryption = bits & 1, bits >> 1 & 1, bits >> 2 & 1
+    key_type = bits >> 24 & 15
+    reserved = bits & ~(7 | 15 << 24)
+    forbidden = no_encryption if i.encrypts else no_decryption
+    return not reserved and key_type == {16: 0, 32: 1}[i.size] and not (cpl_0_only and cpl > 0) and not forbidden
+
+
+def use(m, processor, cpu, i, handle):
+    iwkey = m.keys[processor]
+    key = key_locker.unwrap(iwkey.integrity, iwkey.encryption, handle) if legal(handle[:16], cpu.cpl, i) else None
+    if key is None:
+        cpu.set_flags(ZF)
+        return
+    aes = key_locker.cipher if i.encrypts else key_locker.inv_cipher
+    for n in range(8) if i.wide else [xmm_number(i.operands[0])]:
+        cpu.set_xmm(n, aes(key, cpu.xmm(n)))
+    cpu.set_flags(0)
+
+
+def load_iwkey(m, processor, cpu, i, random):
+    eax = cpu.register(0)
+    no_backup, source = eax & 1, eax >> 1 & 15
+    if source == 1 and not random:
+        cpu.set_flags(ZF)
+        return
+    src1, src2 = map(xmm_number, i.operands)
+    key = cpu.xmm(src2) + cpu.xmm(src1) + cpu.xmm(0)
+    if source == 1:
+        key = key_locker.xor(key, random)
+    m.keys[processor] = IWKey(key[32:], key[:32], source, no_backup)
+    cpu.set_flags(0)
+
+
+def step(machine, processor, cpu, memory, random, string):
+    """The machine record and the CPU record after it."""
+    m = machine_from(machine)
+    refuse_if(processor >= m.count, 3)
+    refuse_if(len(cpu) != CPU_SIZE, 4)
+    cpu = Cpu(cpu)
+    refuse_if(cpu.cpl > 3 or cpu.control > 15 or any(cpu.bytes[402:]), 5)
+    refuse_if(len(memory) > MEMORY_LIMIT, 6)
+    refuse_if(len(random) not in [0, RANDOM_SIZE], 7)
+    i = decode(string)
+    refuse_if(undefined(m, cpu, i), 10)
+    refuse_if(cpu.control & CR0_TS, 11)
+    if i.encode:
+        refuse_if(cpu.register(r32_number(i.operands[1])) % 2**32 >> 3, 12)
+        encode_key(m, processor, cpu, i)
+    elif i.load:
+        refuse_if(load_faults(m, cpu), 12)
+        load_iwkey(m, processor, cpu, i, random)
+    else:
+        use(m, processor, cpu, i, handle_in(memory, cpu, i))
+    cpu.rip += i.length
+    return m.to_bytes(), bytes(cpu.bytes)
+
+
+# ---- the other calls
+
+COPY_STATUS, BACKUP_STATUS, COPY_OUT, COPY_IN = 0x990, 0x991, 0xD91, 0xD92
+
+
+def power_on(count, features, lent=bytes(MACHINE_SIZE)):
+    refuse_if(len(lent) != MACHINE_SIZE or not 1 <= count <= PROCESSOR_LIMIT or features > ALL_FEATURES, 1)
+    return Machine(count, features).to_bytes()
+
+
+def register_call(machine, processor, cpl):
+    m = machine_from(machine)
+    refuse_if(processor >= m.count, 3)
+    refuse_if(cpl > 3, 5)
+    refuse_if(cpl > 0 or not m.features & KL or not m.features & BACKUP, 12)
+    return m
+
+
+def read(machine, processor, cpl, address):
+    m = register_call(machine, processor, cpl)
+    refuse_if(address not in [COPY_STATUS, BACKUP_STATUS], 12)
+    if address == COPY_STATUS:
+        return m.copy_status[processor]
+    return m.valid | m.error << 2 | m.consumed << 3
+
+
+def write(machine, processor, cpl, address, value):
+    m = register_call(machine, processor, cpl)
+    refuse_if(address not in [COPY_OUT, COPY_IN] or value >> 1, 12)
+    if value == 1 and address == COPY_OUT:
+        fails = m.keys[processor].no_backup or m.pending
+        if not fails:
+            m.backup = m.keys[processor]
+            m.pending, m.valid, m.error, m.consumed = 1, 0, 0, 0
+        m.copy_status[processor] = 0 if fails else 1
+    if value == 1 and address == COPY_IN:
+        fails = m.backup is None
+        if not fails:
+            m.keys[processor] = m.backup
+        m.copy_status[processor] = 0 if fails else 1
+    return m.to_bytes()
+
+
+GOOD, BAD = 0, 1
+OLD, NEW, JUNK = 0, 1, 2
+
+
+def settle(machine, code):
+    m = machine_from(machine)
+    refuse_if(code not in [GOOD, BAD], 2)
+    if m.pending and code == GOOD:
+        m.store = m.backup
+        m.valid, m.error, m.consumed = 1, 0, 1
+    if m.pending and code == BAD:
+        m.store = None
+        m.valid, m.error, m.consumed = 0, 1, 1
+    m.pending = 0
+    return m.to_bytes()
+
+
+def sleep(machine, code):
+    m = machine_from(machine)
+    refuse_if(code not in [OLD, NEW, JUNK], 2)
+    woken = Machine(m.count, m.features)
+    if code == JUNK:
+        woken.error = 1
+    else:
+        woken.store = woken.backup = m.backup if m.pending and code == NEW else m.store
+        woken.valid = int(woken.store is not None)
+    return woken.to_bytes()
+
+
+def reset(machine):
+    m = machine_from(machine)
+    return Machine(m.count, m.features).to_bytes()

@@ -1,0 +1,665 @@
+#!/usr/bin/env python3
+"""Calls of the emulated machine by name, and what the program scenarios has to write of them by the model of tests/model.py.
+
+  scenarios.py                   write crates/scenarios/stdin and crates/scenarios/stdout
+  scenarios.py --check           exit with 1 where one of these two files is something else
+  scenarios.py --random N SEED   run target/bin/scenarios on N random calls, and exit with 1 where it differs from the model
+
+All three first hold the model to the numbers that the scope gives for its examples K1 to K12, and to what each attack is meant to show. Handles are
+the model's: where the proved code encoded another one, the use that follows would fail.
+"""
+
+import random
+import subprocess
+import sys
+from pathlib import Path
+
+import key_locker
+import model
+from model import BAD, COPY_IN, COPY_OUT, GOOD, JUNK, NEW, OLD, Cpu, IWKey, Machine, Refused
+
+ROOT = Path(__file__).resolve().parent.parent
+STDIN = ROOT / "crates/scenarios/stdin"
+STDOUT = ROOT / "crates/scenarios/stdout"
+PROGRAM = ROOT / "target/bin/scenarios"
+
+# How many characters the program reads.
+STDIN_LIMIT = 65_536
+
+# ---- the calls as lines, as crates/scenarios/src/call.rt has them
+
+KINDS = ["power-on", "read", "write", "settle", "sleep", "reset", "step", "lend"]
+
+
+def with_zeros_short(block):
+    """Hexadecimal digits, with '.' for sixteen zeros and ',' for eight."""
+    text = ""
+    while block:
+        if block.startswith(bytes(16)):
+            text, block = text + ".", block[16:]
+        elif block.startswith(bytes(8)):
+            text, block = text + ",", block[8:]
+        else:
+            text, block = text + block[:8].hex(), block[8:]
+    return text
+
+
+def stdin_line(name, kind, x=0, y=0, address=0, value=0, parts=()):
+    """Each of parts goes into a place of its own; their lengths stand before them."""
+    lengths = [len(part) for part, room in parts] if kind == "step" else []
+    lengths = "".join(f"{length:04x}" for length in lengths).ljust(16, "0")
+    head = f"{KINDS.index(kind):02x}{x:02x}{y:02x}00 {address:08x} {value:016x} {lengths}"
+    for part, room in parts:
+        assert len(part) <= room
+    rest = " ".join(with_zeros_short(part.ljust(room, b"\0")) for part, room in parts)
+    return f"{name} {head} {rest}".rstrip(" .,")
+
+
+def changes(what, old, new):
+    """Groups of four bytes that changed, each run of them with the place where it begins."""
+    text, after = what, None
+    for at in range(0, len(new), 4):
+        if old[at : at + 4] != new[at : at + 4]:
+            text += new[at : at + 4].hex() if after == at else f" {at}:{new[at : at + 4].hex()}"
+            after = at + 4
+    return text
+
+
+class Script:
+    """Calls on one machine, with the lines that go in and come out. Each call answers its number, 0 where it was not refused."""
+
+    def __init__(self):
+        self.machine = bytes(model.MACHINE_SIZE)
+        self.cpu = None
+        self.value = None
+        self.stdin = []
+        self.stdout = []
+
+    def line(self, name, kind, number, said, machine, **fields):
+        assert " " not in name
+        self.stdin.append(stdin_line(name, kind, **fields))
+        number_said = "" if number is None else f" {number}"
+        self.stdout.append(f"{name} {kind}{number_said}{said}{changes(' machine', self.machine, machine)}")
+        self.machine = machine
+        return number
+
+    def plain(self, name, kind, call, **fields):
+        """A call that answers the machine, or a value."""
+        try:
+            number, result = 0, call()
+        except Refused as refused:
+            # a refused power-on returns an all-zero machine
+            number, result = refused.number, bytes(model.MACHINE_SIZE) if kind == "power-on" else self.machine
+        self.value = result if kind == "read" and number == 0 else 0
+        machine = self.machine if kind == "read" else result
+        said = f" value {self.value}" if kind == "read" and number == 0 else ""
+        return self.line(name, kind, number, said, machine, **fields)
+
+    def power_on(self, name, count=16, features=model.ALL_FEATURES):
+        return self.plain(name, "power-on", lambda: model.power_on(count, features), x=count, y=features)
+
+    def read(self, name, processor, address, cpl=0):
+        return self.plain(name, "read", lambda: model.read(self.machine, processor, cpl, address), x=processor, y=cpl, address=address)
+
+    def write(self, name, processor, address, value=1, cpl=0):
+        call = lambda: model.write(self.machine, processor, cpl, address, value)
+        return self.plain(name, "write", call, x=processor, y=cpl, address=address, value=value)
+
+    def settle(self, name, code):
+        return self.plain(name, "settle", lambda: model.settle(self.machine, code), x=code)
+
+    def sleep(self, name, code):
+        return self.plain(name, "sleep", lambda: model.sleep(self.machine, code), x=code)
+
+    def reset(self, name):
+        return self.plain(name, "reset", lambda: model.reset(self.machine))
+
+    def lend(self, name, record):
+        """The record takes the machine's place; nothing is called."""
+        self.line(name, "lend", None, "", record, parts=[(record, model.MACHINE_SIZE + 4)])
+
+    def step(self, name, string, processor=0, cpu=None, memory=b"", random=b""):
+        before = record() if cpu is None else cpu
+        string = bytes.fromhex(string) if isinstance(string, str) else string
+        try:
+            machine, after = model.step(self.machine, processor, before, memory, random, string)
+            self.cpu = Cpu(after)
+            zf = self.cpu.rflags >> 6 & 1
+            number, said = 0, f" zf {zf} xmm0 {self.cpu.xmm(0).hex()}{changes(' cpu', before, after)}"
+        except Refused as refused:
+            number, said, machine = refused.number, "", self.machine
+            self.cpu = None
+        parts = [(before, 416), (memory, 256), (random, 64), (string, 64)]
+        return self.line(name, "step", number, said, machine, x=processor, parts=parts)
+
+
+# ---- pieces of scenarios
+
+REGISTERS = ["rax", "rcx", "rdx", "rbx", "rsp", "rbp", "rsi", "rdi"] + [f"r{n}" for n in range(8, 16)]
+CONTROL = model.CR4_KL | model.CR4_OSFXSR
+
+
+def record(xmm=None, rip=0, rflags=0, cpl=0, control=CONTROL, **registers):
+    """A CPU record; registers by their names."""
+    cpu = Cpu()
+    for n, block in (xmm or {}).items():
+        cpu.set_xmm(n, block)
+    for name, value in registers.items():
+        cpu.set_register(REGISTERS.index(name), value)
+    cpu.rip, cpu.rflags = rip, rflags
+    cpu.bytes[400:402] = [cpl, control]
+    return bytes(cpu.bytes)
+
+
+def block(n):
+    """Sixteen bytes, of which the first tells which they are."""
+    return bytes((n + 29 * i) % 256 for i in range(16))
+
+
+A = IWKey(integrity=block(0xA0), encryption=block(0xA1) + block(0xA2))
+B = IWKey(integrity=block(0xB0), encryption=block(0xB1) + block(0xB2))
+KEY_128 = block(1)
+KEY_256 = block(2) + block(3)
+PLAIN = block(4)
+
+# Strings, with [rax] for the handle. Encodes: destination eax, source ecx. LOADIWKEY: SRC1 xmm2, SRC2 xmm1.
+ENC_128, DEC_128, ENC_256, DEC_256 = (f"f3 0f 38 {opcode} 00" for opcode in ["dc", "dd", "de", "df"])
+WIDE_ENC_128, WIDE_DEC_128, WIDE_ENC_256, WIDE_DEC_256 = (f"f3 0f 38 d8 {modrm}" for modrm in ["00", "08", "10", "18"])
+ENCODE_128, ENCODE_256 = (f"f3 0f 38 {opcode} c1" for opcode in ["fa", "fb"])
+LOAD = "f3 0f 38 dc d1"
+
+
+def aad(key, bits=0):
+    return bytes([bits, 0, 0, len(key) // 32]) + bytes(12)
+
+
+def handle(iwkey, key, bits=0):
+    return key_locker.wrap(iwkey.integrity, iwkey.encryption, aad(key, bits), key)
+
+
+def load(script, name, iwkey, processor=0, eax=0, random=b""):
+    xmm = {0: iwkey.integrity, 1: iwkey.encryption[:16], 2: iwkey.encryption[16:]}
+    return script.step(name, LOAD, processor, record(xmm, rax=eax), random=random)
+
+
+def encode(script, name, key, source=0, processor=0, cpl=0):
+    xmm = {0: key[:16], 3: block(0x33), 4: block(0x34), 5: block(0x35), 6: block(0x36), 7: block(0x37)}
+    if len(key) == 32:
+        xmm[1] = key[16:]
+    cpu = record(xmm, rax=2**64 - 1, rcx=source, cpl=cpl, rflags=2**64 - 1)
+    return script.step(name, ENCODE_128 if len(key) == 16 else ENCODE_256, processor, cpu)
+
+
+def use(script, name, string, memory, processor=0, cpl=0, xmm=None):
+    return script.step(name, string, processor, record(xmm or {0: PLAIN}, cpl=cpl), memory)
+
+
+def expect(name, found, wanted):
+    if found != wanted:
+        sys.exit(f"{name}: the model says {found!r}, and it should be {wanted!r}")
+
+
+def expect_opened(script, name, xmm0):
+    expect(name, (script.cpu.rflags & model.ZF, script.cpu.xmm(0)), (0, xmm0))
+
+
+def expect_closed(script, name):
+    """ZF 1, and all blocks as they were."""
+    expect(name, (script.cpu.rflags & model.ZF, bytes(script.cpu.bytes[:256])), (model.ZF, PLAIN + bytes(240)))
+
+
+def status(script, name, processor, wanted):
+    script.read(name, processor, model.COPY_STATUS)
+    expect(name, script.value, wanted)
+
+
+def backup_status(script, name, wanted):
+    script.read(name, 0, model.BACKUP_STATUS)
+    expect(name, script.value, wanted)
+
+
+# ---- the scope's examples
+
+
+def k1_to_k7(s):
+    h, h256 = handle(A, KEY_128), handle(A, KEY_256)
+    expect("K1", use(s, "K1-memory-48", ENC_128, h), 0)
+    expect_opened(s, "K1", key_locker.cipher(KEY_128, PLAIN))
+    expect("K1", use(s, "K1-memory-47", ENC_128, h[:47]), 14)
+    expect("K2", s.step("K2-ffd0", ENC_128, cpu=record(rax=0x7FFFFFFFFFD0), memory=h), 14)
+    expect("K2", s.step("K2-ffd1", ENC_128, cpu=record(rax=0x7FFFFFFFFFD1), memory=h), 12)
+    expect("K3", s.step("K3-rsp", "f3 0f 38 dc 04 24", cpu=record(rsp=0x7FFFFFFFFFD1), memory=h), 13)
+    expect("K4", s.step("K4-d8-20", "f3 0f 38 d8 20", memory=h256), 8)
+    blocks = {n: block(0x40 + n) for n in range(9)}
+    expect("K4", use(s, "K4-wide-enc-256", WIDE_ENC_256, h256, xmm=blocks), 0)
+    encrypted = {n: s.cpu.xmm(n) for n in range(9)}
+    expect("K4", encrypted, {n: key_locker.cipher(KEY_256, block(0x40 + n)) for n in range(8)} | {8: block(0x48)})
+    expect("K4", s.step("K4-d8-18", "f3 0f 38 d8 18", cpu=record(encrypted), memory=h256), 0)
+    expect("K4", {n: s.cpu.xmm(n) for n in range(9)}, blocks)
+    expect("K5", s.step("K5-dd-c0", "f3 0f 38 dd c0"), 8)
+    k6 = "f3 44 0f 38 de 05 10 00 00 00"
+    cpu = record(blocks)
+    expect("K6", s.step("K6-address-26", k6, cpu=cpu, memory=bytes(26) + h256), 0)
+    changed = [n for n in range(16) if s.cpu.xmm(n) != Cpu(cpu).xmm(n)]
+    expect("K6", (changed, s.cpu.xmm(8)), ([8], key_locker.cipher(KEY_256, block(0x48))))
+    expect("K6", s.step("K6-memory-89", k6, cpu=cpu, memory=(bytes(26) + h256)[:89]), 14)
+    expect("K7", s.step("K7-empty", ""), 9)
+
+
+def k8_to_k12(s):
+    expect("K8", encode(s, "K8-source-7", KEY_128, 7), 0)
+    expect("K8", s.cpu.xmm(0), bytes([7]) + bytes(15))
+    expect("K8", encode(s, "K8-source-8", KEY_128, 8), 12)
+    expect("K9", encode(s, "K9-source-1", KEY_256, 1), 0)
+    expect("K9", s.cpu.xmm(0), bytes([1, 0, 0, 1]) + bytes(12))
+    expect("K10", load(s, "K10-eax-4", B, eax=4, random=bytes(48)), 12)
+    expect("K10", load(s, "K10-eax-3", B, eax=3, random=block(0xF0) + block(0xF1) + block(0xF2)), 0)
+    key = model.machine_from(s.machine).keys[0]
+    mixed = key_locker.xor(B.encryption + B.integrity, block(0xF0) + block(0xF1) + block(0xF2))
+    expect("K10", key, IWKey(mixed[32:], mixed[:32], source=1, no_backup=1))
+    expect("K11", encode(s, "K11-destination", KEY_128), 0)
+    expect("K11", s.cpu.register(0), 3)
+    expect("K12", load(s, "K12-processor-15", B, 15), 0)
+    expect("K12", load(s, "K12-processor-16", B, 16), 3)
+
+
+def examples(s):
+    s.power_on("K-power-on")
+    load(s, "K-load", A)
+    k1_to_k7(s)
+    k8_to_k12(s)
+
+
+# ---- attacks: what must not work, beside what must
+
+
+def stale_store(s):
+    """The storage is still at work when the machine sleeps, and comes back with what it had before."""
+    for name, code, key in [("stale-store", OLD, A), ("new-store", NEW, B)]:
+        s.power_on(f"{name}-power-on", count=2)
+        load(s, f"{name}-load-first", A)
+        s.write(f"{name}-copy-out-first", 0, COPY_OUT)
+        s.settle(f"{name}-settle", GOOD)
+        load(s, f"{name}-load-second", B)
+        s.write(f"{name}-copy-out-second", 0, COPY_OUT)
+        s.sleep(f"{name}-sleep", code)
+        s.write(f"{name}-copy-in", 0, COPY_IN)
+        status(s, f"{name}-status", 0, 1)
+        for which, iwkey in [("first", A), ("second", B)]:
+            use(s, f"{name}-use-{which}", ENC_128, handle(iwkey, KEY_128))
+            if iwkey == key:
+                expect_opened(s, name, key_locker.cipher(KEY_128, PLAIN))
+            else:
+                expect_closed(s, name)
+
+
+def no_store(s):
+    """As above, where the storage had nothing."""
+    s.power_on("no-store-power-on", count=2)
+    load(s, "no-store-load", A)
+    s.write("no-store-copy-out", 0, COPY_OUT)
+    s.sleep("no-store-sleep", OLD)
+    s.write("no-store-copy-in", 0, COPY_IN)
+    status(s, "no-store-status", 0, 0)
+    backup_status(s, "no-store-backup-status", 0)
+    use(s, "no-store-use", ENC_128, handle(A, KEY_128))
+    expect_closed(s, "no-store")
+
+
+def second_copy_out(s):
+    s.power_on("second-copy-out-power-on", count=2)
+    load(s, "second-copy-out-load-0", A, 0)
+    load(s, "second-copy-out-load-1", B, 1)
+    s.write("second-copy-out-first", 0, COPY_OUT)
+    s.write("second-copy-out-second", 1, COPY_OUT)
+    status(s, "second-copy-out-status-0", 0, 1)
+    status(s, "second-copy-out-status-1", 1, 0)
+    expect("second-copy-out", model.machine_from(s.machine).backup, A)
+    s.settle("second-copy-out-settle", GOOD)
+    backup_status(s, "second-copy-out-backup-status", 0b1001)
+    s.write("second-copy-out-third", 1, COPY_OUT)
+    status(s, "second-copy-out-status-1", 1, 1)
+    expect("second-copy-out", model.machine_from(s.machine).backup, B)
+
+
+def junk_wake(s):
+    s.power_on("junk-wake-power-on", count=2)
+    load(s, "junk-wake-load", A)
+    s.write("junk-wake-copy-out", 0, COPY_OUT)
+    s.settle("junk-wake-settle", GOOD)
+    s.sleep("junk-wake-sleep", JUNK)
+    s.write("junk-wake-copy-in", 0, COPY_IN)
+    status(s, "junk-wake-status", 0, 0)
+    backup_status(s, "junk-wake-backup-status", 0b100)
+    use(s, "junk-wake-use", ENC_128, handle(A, KEY_128))
+    expect_closed(s, "junk-wake")
+
+
+def bad_settle(s):
+    """The copy in the backup still works, and is gone after a sleep."""
+    s.power_on("bad-settle-power-on", count=2)
+    load(s, "bad-settle-load", A)
+    s.write("bad-settle-copy-out", 0, COPY_OUT)
+    s.settle("bad-settle-settle", BAD)
+    backup_status(s, "bad-settle-backup-status", 0b1100)
+    s.write("bad-settle-copy-in", 1, COPY_IN)
+    status(s, "bad-settle-status", 1, 1)
+    s.sleep("bad-settle-sleep", NEW)
+    backup_status(s, "bad-settle-backup-status", 0)
+    s.write("bad-settle-copy-in", 1, COPY_IN)
+    status(s, "bad-settle-status", 1, 0)
+
+
+def no_backup(s):
+    s.power_on("no-backup-power-on", count=2)
+    load(s, "no-backup-load", A, eax=1)
+    s.write("no-backup-copy-out", 0, COPY_OUT)
+    status(s, "no-backup-status", 0, 0)
+    expect("no-backup", model.machine_from(s.machine).backup, None)
+
+
+def damaged_handle(s):
+    """One byte of each part, and the whole handle after them."""
+    s.power_on("damaged-power-on", count=2)
+    load(s, "damaged-load", A)
+    h = handle(A, KEY_128)
+    for at in [0, 1, 3, 15, 16, 31, 32, 47]:
+        damaged = h[:at] + bytes([h[at] ^ 0x10]) + h[at + 1 :]
+        use(s, f"damaged-byte-{at}", ENC_128, damaged)
+        expect_closed(s, "damaged")
+    use(s, "damaged-none", ENC_128, h)
+    expect_opened(s, "damaged", key_locker.cipher(KEY_128, PLAIN))
+
+
+def forged_handle(s):
+    """Authentic under the IWKey, with an AAD that no encode gives."""
+    h = handle(A, KEY_128)
+    for bit in [3, 23, 24, 27, 28, 127]:
+        bits = (1 << bit).to_bytes(16, "little")
+        use(s, f"forged-bit-{bit}", ENC_128, key_locker.wrap(A.integrity, A.encryption, bits, KEY_128))
+        expect_closed(s, "forged")
+    use(s, "forged-256-over-128", ENC_256, h + bytes(16))
+    expect_closed(s, "forged")
+    use(s, "forged-128-over-256", ENC_128, handle(A, KEY_256)[:48])
+    expect_closed(s, "forged")
+
+
+def other_processor(s):
+    s.power_on("other-processor-power-on", count=2)
+    load(s, "other-processor-load-0", A, 0)
+    load(s, "other-processor-load-1", B, 1)
+    h = handle(A, KEY_256)
+    encode(s, "other-processor-encode", KEY_256)
+    expect("other-processor", bytes(s.cpu.bytes[:64]), h)
+    use(s, "other-processor-before", DEC_256, h, processor=1)
+    expect_closed(s, "other-processor")
+    s.write("other-processor-copy-out", 0, COPY_OUT)
+    s.write("other-processor-copy-in", 1, COPY_IN)
+    use(s, "other-processor-after", DEC_256, h, processor=1)
+    expect_opened(s, "other-processor", key_locker.inv_cipher(KEY_256, PLAIN))
+
+
+def privilege(s):
+    """A job of CPL 3 may encode a handle for CPL 0, and cannot use it."""
+    s.power_on("privilege-power-on", count=2)
+    load(s, "privilege-load", A)
+    h = handle(A, KEY_128, 1)
+    expect("privilege", encode(s, "privilege-encode", KEY_128, 1, cpl=3), 0)
+    expect("privilege", bytes(s.cpu.bytes[:48]), h)
+    for cpl in range(4):
+        use(s, f"privilege-cpl-{cpl}", ENC_128, h, cpl=cpl)
+        if cpl == 0:
+            expect_opened(s, "privilege", key_locker.cipher(KEY_128, PLAIN))
+        else:
+            expect_closed(s, "privilege")
+
+
+def direction(s):
+    for bits, what in [(2, "no-encryption"), (4, "no-decryption")]:
+        h, h256 = handle(A, KEY_128, bits), handle(A, KEY_256, bits)
+        for encrypts, strings in [(1, (ENC_128, ENC_256, WIDE_ENC_128, WIDE_ENC_256)), (0, (DEC_128, DEC_256, WIDE_DEC_128, WIDE_DEC_256))]:
+            for form, string, memory in zip(["128", "256", "wide-128", "wide-256"], strings, [h, h256, h, h256]):
+                use(s, f"{what}-{'enc' if encrypts else 'dec'}-{form}", string, memory)
+                if (bits == 2) == bool(encrypts):
+                    expect_closed(s, what)
+                else:
+                    aes = key_locker.cipher if encrypts else key_locker.inv_cipher
+                    expect_opened(s, what, aes(KEY_128 if memory is h else KEY_256, PLAIN))
+
+
+def not_ready(s):
+    expect("not-ready", load(s, "not-ready-load", B, eax=2), 0)
+    expect("not-ready", (s.cpu.rflags, model.machine_from(s.machine).keys[0]), (model.ZF, A))
+    use(s, "not-ready-use", ENC_128, handle(A, KEY_128))
+    expect_opened(s, "not-ready", key_locker.cipher(KEY_128, PLAIN))
+
+
+def zero_integrity_key(s):
+    """All handles have one tag: a damaged one opens, to another key."""
+    s.power_on("zero-key-power-on", count=2)
+    h = handle(model.NO_KEY, KEY_128)
+    # the numbers of 343965-001US, chapter 6, as bytes
+    encode(s, "zero-key-encode", bytes(16))
+    tag, ciphertext = 0x8720849214A248AD_898940A278C095DC, 0xD3E9D22B334FB3C2_3382228C8474C308
+    wanted = bytes(16) + tag.to_bytes(16, "little") + ciphertext.to_bytes(16, "little")
+    expect("zero-key", bytes(s.cpu.bytes[:48]), wanted)
+    use(s, "zero-key-damaged", ENC_128, h[:47] + bytes([h[47] ^ 1]))
+    expect_opened(s, "zero-key", key_locker.cipher(KEY_128[:15] + bytes([KEY_128[15] ^ 1]), PLAIN))
+
+
+def counter_wraps(s):
+    """A tag whose counter has no successor: the second keystream block is that of counter 0."""
+    high = block(5)
+    tag = bytes([255] * 4) + block(6)[4:]
+    while (key := key_locker.key_with_tag(A.integrity, A.encryption, aad(high + high), high, tag)) is None:
+        tag = tag[:15] + bytes([tag[15] + 1])
+    load(s, "counter-wraps-load", A)
+    encode(s, "counter-wraps-encode", key)
+    expect("counter-wraps", bytes(s.cpu.bytes[16:32]), tag)
+    use(s, "counter-wraps-use", ENC_256, handle(A, key))
+    expect_opened(s, "counter-wraps", key_locker.cipher(key, PLAIN))
+
+
+def attacks(s):
+    stale_store(s)
+    no_store(s)
+    second_copy_out(s)
+    junk_wake(s)
+    bad_settle(s)
+    no_backup(s)
+    damaged_handle(s)
+    forged_handle(s)
+    other_processor(s)
+    privilege(s)
+    direction(s)
+    not_ready(s)
+    zero_integrity_key(s)
+    counter_wraps(s)
+
+
+# ---- refusals: each meets its own number and later ones, so that the order shows
+
+
+def step_refusals(s):
+    s.power_on("refusals-power-on", count=2)
+    load(s, "refusals-load", A)
+    bad_cpu = record(cpl=4, rax=2**63)
+    ts = CONTROL | model.CR0_TS
+    noncanonical = {"rax": 2**63}
+    calls = [
+        (3, "count-2", dict(string="", processor=2, cpu=bytes(407), random=bytes(1))),
+        (4, "cpu-407", dict(string="", cpu=bytes(407), random=bytes(1))),
+        (4, "cpu-409", dict(string="", cpu=bytes(409), random=bytes(1))),
+        (5, "cpl-4", dict(string="", cpu=bad_cpu, random=bytes(1))),
+        (5, "control-bit-4", dict(string="", cpu=record(control=CONTROL | 16), random=bytes(1))),
+        (5, "control-bit-7", dict(string="", cpu=record(control=CONTROL | 128))),
+        (5, "byte-402", dict(string="", cpu=record()[:402] + bytes([1]) + bytes(5))),
+        (5, "byte-407", dict(string="", cpu=record()[:407] + bytes([128]))),
+        (7, "random-1", dict(string="", random=bytes(1))),
+        (7, "random-47", dict(string=ENCODE_128, random=bytes(47))),
+        (7, "random-49", dict(string=ENCODE_128, random=bytes(49))),
+        (8, "byte-bad", dict(string="f0 f3 0f 38 db", cpu=record(control=0))),
+        (9, "string-short", dict(string="f0 f3 0f 38 dc", cpu=record(control=0))),
+        (10, "lock", dict(string="f0" + ENC_128, cpu=record(control=ts, **noncanonical))),
+        (10, "lock-encode", dict(string="f0" + ENCODE_128, cpu=record(rcx=8))),
+        (10, "lock-load", dict(string="f0" + LOAD, cpu=record(cpl=3))),
+        (10, "cr4-kl", dict(string=ENC_128, cpu=record(control=ts & ~model.CR4_KL, **noncanonical))),
+        (10, "osfxsr", dict(string=ENC_128, cpu=record(control=ts & ~model.CR4_OSFXSR, **noncanonical))),
+        (10, "em", dict(string=LOAD, cpu=record(control=ts | model.CR0_EM, cpl=3))),
+        (11, "ts", dict(string=ENC_128, cpu=record(control=ts, **noncanonical))),
+        (11, "ts-encode", dict(string=ENCODE_256, cpu=record(control=ts, rcx=8))),
+        (11, "ts-load", dict(string=LOAD, cpu=record(control=ts, rax=8))),
+        (12, "encode-bit-31", dict(string=ENCODE_256, cpu=record(rcx=2**31))),
+        (0, "encode-bit-32", dict(string=ENCODE_256, cpu=record(rcx=2**32))),
+        (12, "load-cpl-1", dict(string=LOAD, cpu=record(cpl=1))),
+        (12, "load-bit-5", dict(string=LOAD, cpu=record(rax=32))),
+        (12, "load-bit-31", dict(string=LOAD, cpu=record(rax=2**31))),
+        (12, "load-source-15", dict(string=LOAD, cpu=record(rax=30))),
+        (12, "not-canonical", dict(string=ENC_128, cpu=record(**noncanonical))),
+        (13, "stack-rbp", dict(string="f3 0f 38 dc 45 00", cpu=record(rbp=2**63))),
+        (12, "not-stack-r13", dict(string="f3 41 0f 38 dc 45 00", cpu=record(r13=2**63))),
+        (12, "not-stack-r12", dict(string="f3 41 0f 38 dc 04 24", cpu=record(r12=2**63))),
+        (12, "not-stack-index-rbp", dict(string="f3 0f 38 dc 04 28", cpu=record(rbp=2**63))),
+        (14, "over-the-top", dict(string=ENC_128, cpu=record(rax=2**64 - 8), memory=bytes(64))),
+        (12, "into-the-gap", dict(string=ENC_128, cpu=record(rax=0xFFFF7FFFFFFFFFF8))),
+        (14, "above-the-gap", dict(string=ENC_128, cpu=record(rax=0xFFFF800000000000))),
+        (14, "memory-63-of-256", dict(string=ENC_256, memory=handle(A, KEY_128) + bytes(15))),
+        (14, "memory-0", dict(string=ENC_128)),
+    ]
+    for number, name, call in calls:
+        expect(name, s.step(f"refusal-{name}", **call), number)
+
+
+def feature_refusals(s):
+    """Each feature off, one at a time."""
+    h = handle(model.NO_KEY, KEY_128)
+    for name, bit in [("kl", model.KL), ("firmware", model.FIRMWARE), ("wide", model.WIDE), ("backup", model.BACKUP)]:
+        s.power_on(f"no-{name}-power-on", count=1, features=model.ALL_FEATURES & ~bit)
+        kl_or = lambda *bits: 10 if bit in [model.KL, *bits] else 0
+        expect(name, use(s, f"no-{name}-use", ENC_128, h), kl_or(model.FIRMWARE))
+        expect(name, use(s, f"no-{name}-wide", WIDE_ENC_128, h), kl_or(model.FIRMWARE, model.WIDE))
+        expect(name, encode(s, f"no-{name}-encode", KEY_128), kl_or(model.FIRMWARE))
+        expect(name, load(s, f"no-{name}-load", A), kl_or())
+        expect(name, s.write(f"no-{name}-copy-out", 0, COPY_OUT), 12 if bit in [model.KL, model.BACKUP] else 0)
+        expect(name, s.settle(f"no-{name}-settle", GOOD), 0)
+    s.power_on("no-no-backup-power-on", count=1, features=model.ALL_FEATURES & ~model.NO_BACKUP)
+    expect("no-no-backup", load(s, "no-no-backup-load", A, eax=1), 12)
+    s.power_on("no-random-power-on", count=1, features=model.ALL_FEATURES & ~model.RANDOM_SOURCE)
+    expect("no-random", load(s, "no-random-load", A, eax=2, random=bytes(48)), 12)
+    expect("no-random", load(s, "no-random-source-0", A, random=bytes(48)), 0)
+
+
+def register_refusals(s):
+    s.power_on("registers-power-on", count=2)
+    calls = [
+        (3, s.read, "read-processor-2", dict(processor=2, address=0, cpl=4)),
+        (5, s.read, "read-cpl-4", dict(processor=1, address=0, cpl=4)),
+        (12, s.read, "read-cpl-1", dict(processor=1, address=0x990, cpl=1)),
+        (12, s.read, "read-d91", dict(processor=1, address=0xD91)),
+        (12, s.read, "read-992", dict(processor=1, address=0x992)),
+        (3, s.write, "write-processor-2", dict(processor=2, address=0, cpl=4)),
+        (5, s.write, "write-cpl-255", dict(processor=1, address=0, cpl=255)),
+        (12, s.write, "write-cpl-3", dict(processor=1, address=0xD91, cpl=3, value=0)),
+        (12, s.write, "write-990", dict(processor=1, address=0x990)),
+        (12, s.write, "write-value-2", dict(processor=1, address=0xD91, value=2)),
+        (12, s.write, "write-value-63", dict(processor=1, address=0xD92, value=2**63 + 1)),
+        (0, s.write, "write-0", dict(processor=1, address=0xD91, value=0)),
+        (0, s.write, "write-d92", dict(processor=1, address=0xD92)),
+        (2, s.settle, "settle-2", dict(code=2)),
+        (0, s.settle, "settle-not-pending", dict(code=1)),
+        (2, s.sleep, "sleep-3", dict(code=3)),
+    ]
+    for number, call, name, arguments in calls:
+        expect(name, call(f"refusal-{name}", **arguments), number)
+
+
+def lent_records(s):
+    """Records that no list of calls reaches: refused, or taken to the letter."""
+    good = Machine(count=2, features=model.ALL_FEATURES)
+    for name, at, byte in [
+        ("count-0", 0, 0),
+        ("count-17", 0, 17),
+        ("features-64", 1, 64),
+        ("source-2", 2 + 48, 2),
+        ("no-backup-2", 2 + 49, 2),
+        ("copy-status-2", 2 + 50, 2),
+        ("past-the-count", 2 + 51 * 2, 1),
+        ("past-the-count-status", 2 + 51 * 16 - 1, 1),
+        ("backup-2", 818, 2),
+        ("absent-backup", 818 + 50, 1),
+        ("absent-store", 869 + 1, 1),
+        ("pending-2", 920, 2),
+        ("consumed-2", 923, 2),
+    ]:
+        record = bytearray(good.to_bytes())
+        record[at] = byte
+        s.lend(f"lent-{name}", bytes(record))
+        expect(name, s.reset(f"lent-{name}-reset"), 1)
+        expect(name, s.settle(f"lent-{name}-settle", 2), 1)
+    for code in [GOOD, BAD]:
+        s.lend("lent-pending-alone", Machine(2, 0, pending=1, error=1).to_bytes())
+        s.settle(f"lent-pending-alone-settle-{code}", code)
+    for code in [OLD, NEW, JUNK]:
+        s.lend("lent-pending-alone", Machine(2, 0, store=A, pending=1, valid=1, error=1, consumed=1).to_bytes())
+        s.sleep(f"lent-pending-alone-sleep-{code}", code)
+    keep = IWKey(B.integrity, B.encryption, source=1, no_backup=1)
+    s.lend("lent-copy-in", Machine(2, model.ALL_FEATURES, backup=keep, copy_status=[1, 1] + [0] * 14).to_bytes())
+    s.write("lent-copy-in-no-backup", 1, COPY_IN)
+    s.write("lent-copy-out-no-backup", 1, COPY_OUT)
+    s.lend("lent-no-backup", Machine(2, model.ALL_FEATURES, copy_status=[1, 1] + [0] * 14).to_bytes())
+    s.write("lent-copy-in-absent", 0, COPY_IN)
+    expect("lent-copy-in-absent", model.machine_from(s.machine).copy_status[:2], [0, 1])
+    s.reset("lent-reset")
+
+
+def refusals(s):
+    expect("power-on", s.power_on("refusal-count-0", count=0), 1)
+    expect("power-on", s.reset("refusal-no-machine"), 1)
+    expect("power-on", s.power_on("refusal-count-17", count=17), 1)
+    expect("power-on", s.power_on("refusal-features-64", features=64), 1)
+    step_refusals(s)
+    feature_refusals(s)
+    register_refusals(s)
+    lent_records(s)
+
+
+def scenarios():
+    s = Script()
+    examples(s)
+    attacks(s)
+    refusals(s)
+    return s
+
+
+# ---- the files
+
+
+def files(s):
+    texts = {path: "".join(line + "\n" for line in lines) for path, lines in [(STDIN, s.stdin), (STDOUT, s.stdout)]}
+    if len(texts[STDIN]) > STDIN_LIMIT:
+        sys.exit(f"{len(texts[STDIN])} characters are more than the program reads")
+    return texts
+
+
+def write():
+    for path, text in files(scenarios()).items():
+        path.write_text(text)
+
+
+def check():
+    for path, text in files(scenarios()).items():
+        if not path.is_file() or path.read_text() != text:
+            sys.exit(f"{path.relative_to(ROOT)} is not what tests/scenarios.py writes")
+
+
+def main(args):
+    if not args:
+        write()
+    elif args == ["--check"]:
+        check()
+    else:
+        sys.exit(__doc__)
+
+
+if __name__ == "__main__":
+    main(sys.argv[1:])
