@@ -5,25 +5,22 @@ use mathlib.Core.Bool.{Bool, true, false, cond, not, _&&_, and-assoc}
 use mathlib.Core.List.{List, []}
 use Prim.Native.Nat.{ℕ}
 use lib.Dec.{eqb}
-use lib.ListN.{length, replicate}
-use native.Mathlib.Omega.{arith}
-use borrow.Author.Tests.{eqb-true, eqb-false, eq-eqb, ne-eqb}
+use lib.ListN.{length}
+use borrow.Author.Tests.{eqb-true, eq-eqb, ne-eqb}
 use Rattle.bits.proofs.Choice.{cond-on, cond-off}
 use Rattle.model.specs.Calls.{PowerOn, StepCall, Call, step}
-use Rattle.model.specs.Cpu.{cpuSize}
 use Rattle.model.specs.Calls as model
 use Rattle.model.specs.Validity.{validCount, validFeatures}
-use Rattle.model.specs.Execution.{fresh, viewOf, call, powerOn}
+use Rattle.model.specs.Execution.{fresh, call, powerOn}
 use Rattle.model.specs.Layout.{machineSize, machineBytes, machineAt}
 use Rattle.model.specs.Lent.{powerOnLent, callLent}
 use Rattle.model.specs.declared.Machine.{Machine}
-use Rattle.model.proofs.Frames.{accepted-parts, refused-kept, call-number}
-use Rattle.model.proofs.Refusals.{cpu-length}
-use Rattle.machine.specs.Form.{answerOf, outcomeOf, steppedOf}
+use Rattle.machine.specs.Form.{answerOf, outcomeOf}
+use Rattle.machine.specs.declared.Answer.{Answer}
 use Rattle.machine.specs.declared.Answer.the-variants.{Done, Refused}
 use Rattle.machine.specs.declared.Outcome.{Outcome}
-use Rattle.machine.specs.declared.Stepped.{Stepped}
-use Rattle.keylocker.specs.Form.{Called, called, calledOf, answered, finished, readCalled, readCalledOf, readAnswered, stepCalled, stepCalledOf, stepAnswered, stepFinished}
+use Rattle.lent.specs.Form.{Left, left, leftOf}
+use Rattle.keylocker.specs.Form.{Called, called, calledOf, answered, finished, readCalled, readCalledOf, readAnswered, stepCalled, stepCalledOf}
 
 -- the number 0 is done, and any other refused
 finished-of : (block : List ℕ) (o : model.Outcome)
@@ -113,40 +110,13 @@ module _ (block : List ℕ) (s : StepCall) where
   unfolding callLent
   step-short h = sym (ap stepCalledOf (cond-off (ne-eqb (length block) machineSize h) _ _))
 
-  -- a refused step's CPU record is the one lent
-  step-finished : (m : Machine)
-      → stepFinished block (s .cpu) (steppedOf (call m (step s)))
-      ≡ stepCalled (call m (step s) .answer .number)
-      (cond (eqb (call m (step s) .answer .number) 0) (machineBytes (call m (step s) .machine)) block) (call m (step s) .answer .cpu)
-  step-finished m = go (eqb (call m (step s) .answer .number) 0) refl
-    where
-      go : (t : Bool) → eqb (call m (step s) .answer .number) 0 ≡ t
-          → stepAnswered block (s .cpu) (call m (step s) .machine) (cond t (call m (step s) .answer .cpu) (replicate cpuSize 0))
-          (cond t Done (Refused (call m (step s) .answer .number)))
-          ≡ stepCalled (call m (step s) .answer .number) (cond t (machineBytes (call m (step s) .machine)) block) (call m (step s) .answer .cpu)
-      go true e = λ j. stepCalled (sym (eqb-true (call m (step s) .answer .number) 0 e) j) (machineBytes (call m (step s) .machine)) (call m (step s) .answer .cpu)
-      go false e =
-          let kept : call m (step s) .answer .cpu ≡ s .cpu =
-          ap (λ (x : model.Outcome). x .answer .cpu) (refused-kept m (step s) (eqb-false (call m (step s) .answer .number) 0 e)) in
-          λ j. stepCalled (call m (step s) .answer .number) block (sym kept j)
-
-  pub step-called : (o : Stepped) → length block ≡ machineSize → o ≡ steppedOf (call (machineAt block) (step s))
-      → stepFinished block (s .cpu) o ≡ stepCalledOf (callLent block (step s))
+  pub step-called : (a : Answer) (n : Machine) (cpu : List ℕ) (r : ℕ) (after : List ℕ) → length block ≡ machineSize
+      → left a n cpu ≡ leftOf (call (machineAt block) (step s)) → called r after ≡ answered block n a
+      → stepCalled r after cpu ≡ stepCalledOf (callLent block (step s))
   unfolding callLent
-  step-called o h e =
-      ap (stepFinished block (s .cpu)) e ∙ step-finished (machineAt block)
+  step-called a n cpu r after h e f =
+      let o = call (machineAt block) (step s) in
+      let g : called r after ≡ called (o .answer .number) (cond (eqb (o .answer .number) 0) (machineBytes (o .machine)) block) =
+      f ∙ ap (λ (x : Left). answered block (x .machine) (x .answer)) e ∙ finished-of block o in
+      (λ j. stepCalled (g j .number) (g j .block) (e j .cpu))
       ∙ sym (ap stepCalledOf (cond-on (eq-eqb (length block) machineSize h) _ _))
-
--- a step that is done was lent a whole CPU record
-pub done-length : (m : Machine) (s : StepCall) (o : Stepped) → o ≡ steppedOf (call m (step s)) → o .answer ≡ Done → length (s .cpu) ≡ cpuSize
-done-length m s o e d =
-    let n = call m (step s) .answer .number in
-    let zero : n ≡ 0 = chosen n (sym (ap (λ (x : Stepped). x .answer) e) ∙ d) in
-    cpu-length (viewOf m) s (accepted-parts m (step s) (sym (call-number m (step s)) ∙ zero) .1)
-  where
-    chosen : (n : ℕ) → answerOf n ≡ Done → n ≡ 0
-    chosen n q = go (eqb n 0) refl q
-      where
-        go : (t : Bool) → eqb n 0 ≡ t → cond t Done (Refused n) ≡ Done → n ≡ 0
-        go true e q = eqb-true n 0 e
-        go false e q = let z : _≡_ {A = ℕ} 0 1 = cc in absurd (omega arith)

@@ -10,7 +10,6 @@ use Rattle.model.specs.declared.Machine.{Machine}
 use Rattle.machine.specs.declared.Answer.{Answer}
 use Rattle.machine.specs.declared.Answer.the-variants.{Done, Refused}
 use Rattle.machine.specs.declared.Outcome.{Outcome}
-use Rattle.machine.specs.declared.Stepped.{Stepped}
 
 -- the number that is returned, and the machine's bytes at exit
 pub record Called : Type 0 where
@@ -60,10 +59,3 @@ stepCalled n b c = record { number = n; block = b; cpu = c }
 
 abbrev pub stepCalledOf : Lent → StepCalled
 stepCalledOf l = stepCalled (l .answer .number) (l .block) (l .answer .cpu)
-
-abbrev pub stepAnswered : List ℕ → List ℕ → Machine → List ℕ → Answer → StepCalled
-stepAnswered block cpu m c Done = stepCalled 0 (machineBytes m) c
-stepAnswered block cpu m c (Refused n) = stepCalled n block cpu
-
-abbrev pub stepFinished : List ℕ → List ℕ → Stepped → StepCalled
-stepFinished block cpu o = stepAnswered block cpu (o .machine) (o .cpu) (o .answer)

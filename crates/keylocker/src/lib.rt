@@ -2,16 +2,14 @@
 ghost use mathlib.Core.Path.{_≡_};
 ghost use lib.ListN.{length};
 ghost use Rattle.model.specs.Calls.{step, read, write, settle, sleep, reset};
-ghost use Rattle.model.specs.Cpu.{cpuSize};
 ghost use Rattle.model.specs.Layout.{machineSize};
 ghost use Rattle.model.specs.Lent.{powerOnLent, callLent};
-ghost use Rattle.keylocker.specs.Form.{called, calledOf, finished, readCalled, readCalledOf, stepCalled, stepCalledOf, stepFinished};
-ghost use Rattle.machine.specs.declared.Answer.the-variants.{Done};
+ghost use Rattle.keylocker.specs.Form.{called, calledOf, finished, readCalled, readCalledOf, stepCalled, stepCalledOf};
 use layout::read_machine;
 use layout::write_machine;
+use lent::take_step;
 use machine::Answer;
 use machine::Outcome;
-use machine::Stepped;
 
 fn finish(block: &mut [u8], o: Outcome) -> u32
     requires { ⌜ length (now block) ≡ machineSize ⌝ }
@@ -118,33 +116,6 @@ pub extern "C" fn keylocker_write(
 
 // ---- step
 
-fn put_record(cpu: &mut [u8], c: [u8; 408])
-    requires { ⌜ length (now cpu) ≡ cpuSize ⌝ }
-    ensures { λ _. ⌜ now (cpu .exit) ≡ c ⌝ }
-{
-    for i in 0..408usize {
-        cpu[i] = c[i];
-    }
-}
-
-fn finish_step(block: &mut [u8], cpu: &mut [u8], o: Stepped) -> u32
-    requires { ⌜ length (now block) ≡ machineSize ⌝ }
-    requires { ⌜ (o .answer ≡ Done → length (now cpu) ≡ cpuSize) ⌝ }
-    ensures { λ r. ⌜ stepCalled r (now (block .exit)) (now (cpu .exit)) ≡ stepFinished (now (block .entry)) (now (cpu .entry)) o ⌝ }
-{
-    let answer = o.answer;
-    match answer {
-        Answer::Refused(n) => n as u32,
-        Answer::Done => {
-            let m = o.machine;
-            let c = o.cpu;
-            write_machine(block, m);
-            put_record(cpu, c);
-            0
-        }
-    }
-}
-
 #[no_mangle]
 pub extern "C" fn keylocker_step(
     machine: &mut [u8],
@@ -160,6 +131,13 @@ pub extern "C" fn keylocker_step(
         return 1;
     }
     let m = read_machine(machine);
-    let o = machine::step(m, processor, cpu, memory, random, string);
-    finish_step(machine, cpu, o)
+    let t = take_step(m, processor, cpu, memory, random, string);
+    let after = t.machine;
+    let answer = t.answer;
+    let o = Outcome {
+        machine: after,
+        answer,
+        value: 0,
+    };
+    finish(machine, o)
 }

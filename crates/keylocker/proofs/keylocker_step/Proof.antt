@@ -2,10 +2,9 @@ use mathlib.Core.Path.{_∙_, ap}
 use Rattle.model.specs.Calls.{StepCall}
 use Rattle.model.specs.Calls as model
 use Rattle.model.specs.Execution.{call}
-use Rattle.model.specs.Layout.{machineAt}
 use Rattle.model.specs.declared.Machine.{Machine}
-use Rattle.machine.specs.Form.{steppedOf}
-use Rattle.keylocker.proofs.Finishing.{step-short, step-called, done-length}
+use Rattle.lent.specs.Form.{leftOf}
+use Rattle.keylocker.proofs.Finishing.{step-short, step-called}
 use borrow.Author.Needs.{needs}
 use Rattle.keylocker.proofs.keylocker_step.Statement.{statement}
 use Rattle.keylocker.proofs.keylocker_step.Tie as tie
@@ -19,15 +18,11 @@ returns c =
 read-machine-requires : tie.Need-read-machine-requires
 read-machine-requires c κs = search needs
 
-step-requires : tie.Need-step-requires
-step-requires c κs = search needs
+take-step-requires : tie.Need-take-step-requires
+take-step-requires c κs = search needs
 
-finish-step-requires : tie.Need-finish-step-requires
-finish-step-requires c κs =
-    let a = c .before .before .before .before .before .before .before .before .before .before .before .before .args in
-    let s : StepCall = record { processor = a .processor; cpu = a .cpu .now; memory = a .memory .now; random = a .random .now; string = a .string .now } in
-    let e = c .before .before .step .ensures ∙ ap (λ (m : Machine). steppedOf (call m (model.step s))) (c .before .before .before .before .read-machine .ensures) in
-    (search needs, done-length (machineAt (a .machine .now)) s (c .before .before .step .result) e)
+finish-requires : tie.Need-finish-requires
+finish-requires c κs = search needs
 
 same-length : tie.Need-same-length
 same-length c = search needs
@@ -39,8 +34,9 @@ returns-2 : tie.Need-returns-2
 returns-2 c =
     let a = c .before .before .before .before .before .before .before .before .before .before .before .before .before .before .before .before .before .args in
     let s : StepCall = record { processor = a .processor; cpu = a .cpu .now; memory = a .memory .now; random = a .random .now; string = a .string .now } in
-    let e = c .before .before .before .before .before .before .before .step .ensures ∙ ap (λ (m : Machine). steppedOf (call m (model.step s))) (c .before .before .before .before .before .before .before .before .before .read-machine .ensures) in
-    c .before .before .before .before .finish-step .ensures ∙ step-called (a .machine .now) s (c .before .before .before .before .before .before .before .step .result) (search needs) e
+    let t = c .before .before .before .before .before .before .before .take-step .result in
+    step-called (a .machine .now) s (t .answer) (t .machine) _ _ _ (search needs)
+    (c .before .before .before .before .before .before .before .take-step .ensures ∙ ap (λ (m : Machine). leftOf (call m (model.step s))) (c .before .before .before .before .before .before .before .before .before .read-machine .ensures)) (c .before .before .finish .ensures)
 
 pub keylocker-step-spec : {M : Type 1} → statement M
 keylocker-step-spec =
@@ -48,8 +44,8 @@ keylocker-step-spec =
     (tie.spec
     returns
     read-machine-requires
-    step-requires
-    finish-step-requires
+    take-step-requires
+    finish-requires
     same-length
     same-length-2
     returns-2)
