@@ -56,7 +56,9 @@ use Rattle.lent.proofs.Taken as S
 use Rattle.lent.proofs.Taken.Laws as S′
 use Rattle.lent.proofs.take_step as take
 use Rattle.lent.proofs.take_step.Symbol as take-def
+use Rattle.lent.proofs.take_step.Symbol.{name as #lent·take-step}
 use Rattle.lent.proofs.take_step.Met as take-thm
+use Rattle.lent.proofs.step_lent.Key.{name as #lent·step-lent}
 use Rattle.lent.proofs.step_lent as here
 use Rattle.lent.proofs.step_lent.Statement as stated
 use Rattle.lent.proofs.step_lent.Code as code
