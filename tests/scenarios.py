@@ -358,6 +358,11 @@ def no_backup(s):
     s.write("no-backup-copy-out", 0, COPY_OUT)
     status(s, "no-backup-status", 0, 0)
     expect("no-backup", model.machine_from(s.machine).backup, None)
+    encode(s, "no-backup-encode", KEY_128)
+    expect("no-backup", s.cpu.register(0), 1)
+    load(s, "no-backup-random", A, eax=2, random=block(0xF0) * 3)
+    encode(s, "no-backup-random-encode", KEY_256)
+    expect("no-backup", s.cpu.register(0), 2)
 
 
 def damaged_handle(s):
@@ -477,6 +482,44 @@ def attacks(s):
     not_ready(s)
     zero_integrity_key(s)
     counter_wraps(s)
+
+
+# ---- operands: the handle at 40, and in the registers what leads there
+
+
+def operands(s):
+    memory = block(7) * 2 + bytes(8) + handle(A, KEY_128)
+    s.power_on("operands-power-on", count=2)
+    load(s, "operands-load", A)
+    for name, string, registers in [
+        ("disp8-negative", "f3 0f 38 dc 40 f8", dict(rax=48)),
+        ("disp32-negative", "f3 0f 38 dc 80 00 ff ff ff", dict(rax=0x128)),
+        ("index-scaled", "f3 0f 38 dc 04 c8", dict(rax=16, rcx=3)),
+        ("index-none", "f3 0f 38 dc 04 60", dict(rax=40, rsp=1)),
+        ("index-r12", "f3 42 0f 38 dc 04 20", dict(r12=40)),
+        ("index-alone", "f3 0f 38 dc 04 4d 20 00 00 00", dict(rcx=4, rbp=1)),
+        ("base-none", "f3 0f 38 dc 04 25 28 00 00 00", dict(rsp=1, rbp=1)),
+        ("base-none-rex-b", "f3 41 0f 38 dc 04 25 28 00 00 00", dict(r12=1, r13=1)),
+        ("base-r12", "f3 41 0f 38 dc 04 24", dict(r12=40)),
+        ("base-r13", "f3 41 0f 38 dc 45 00", dict(r13=40)),
+        ("base-rbp", "f3 0f 38 dc 45 00", dict(rbp=40)),
+        ("base-rsp", "f3 0f 38 dc 44 24 08", dict(rsp=32)),
+        ("rip-negative", "f3 0f 38 dc 05 d8 ff ff ff", dict(rip=71)),
+        ("rip-rex-b", "f3 41 0f 38 dc 05 d8 ff ff ff", dict(rip=70, r13=1)),
+        ("over-2-64", "f3 0f 38 dc 40 30", dict(rax=2**64 - 8)),
+        ("rex-w", "f3 48 0f 38 dc 00", dict(rax=40)),
+        ("rip-wraps", "f3 0f 38 dc 00 f3 0f", dict(rax=40, rip=2**64 - 1)),
+        ("wide-rex-r", "f3 44 0f 38 d8 00", dict(rax=40)),
+    ]:
+        expect(name, s.step(f"operands-{name}", string, cpu=record({0: PLAIN}, **registers), memory=memory), 0)
+        expect_opened(s, name, key_locker.cipher(KEY_128, PLAIN))
+    expect("xmm15", s.step("operands-xmm15", "f3 44 0f 38 dc 38", cpu=record({15: PLAIN}, rax=40), memory=memory), 0)
+    expect("xmm15", s.cpu.xmm(15), key_locker.cipher(KEY_128, PLAIN))
+    xmm = {0: B.integrity, 9: B.encryption[:16], 10: B.encryption[16:]}
+    s.step("operands-load-xmm10-xmm9", "f3 45 0f 38 dc d1", 1, cpu=record(xmm))
+    expect("load-xmm10-xmm9", model.machine_from(s.machine).keys[1], B)
+    s.step("operands-encode-r9d-r8d", "f3 45 0f 38 fa c8", 1, cpu=record({0: KEY_128}, r8=6, r9=2**64 - 1))
+    expect("encode-r9d-r8d", (bytes(s.cpu.bytes[:48]), s.cpu.register(9)), (handle(B, KEY_128, 6), 0))
 
 
 # ---- refusals: each meets its own number and later ones, so that the order shows
@@ -629,6 +672,7 @@ def scenarios():
     s = Script()
     examples(s)
     attacks(s)
+    operands(s)
     refusals(s)
     return s
 
