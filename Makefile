@@ -2,6 +2,7 @@
 # make examples  print the papers' examples, computed by the proved libraries
 # make test      all tests, as tests/run.sh has them
 # make test-decoder  compare the proved decoder with GNU objdump, on about a million strings
+# make test-machine  compare the proved machine with the model in Python, on 20,000 random calls
 # make clean     remove build/; what rt made is in target/
 
 CC = gcc
@@ -15,7 +16,7 @@ BASELINE = measure aes_bytes aes_ttables
 AES = aes $(BASELINE)
 KEYWRAP = keywrap keywrap_bytes keywrap_ttables $(BASELINE)
 
-.PHONY: bench examples test test-decoder clean
+.PHONY: bench examples test test-decoder test-machine clean
 
 bench: build/bench_aes build/bench_keywrap
 	./build/bench_aes
@@ -49,6 +50,10 @@ test:
 test-decoder:
 	rt check disassemble
 	python3 tests/decoder.py --objdump
+
+test-machine:
+	rt check scenarios
+	python3 tests/scenarios.py --random 20000 1
 
 clean:
 	rm -rf build

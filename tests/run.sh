@@ -6,4 +6,5 @@ cd "$(dirname "$0")/.."
 python3 tests/vectors_stdout.py --check
 python3 tests/key_locker.py
 python3 tests/decoder.py --check
+python3 tests/scenarios.py --check
 exec rt ci

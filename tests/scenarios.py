@@ -12,8 +12,10 @@ the model's: where the proved code encoded another one, the use that follows wou
 import random
 import subprocess
 import sys
+from collections import Counter
 from pathlib import Path
 
+import decoder
 import key_locker
 import model
 from model import BAD, COPY_IN, COPY_OUT, GOOD, JUNK, NEW, OLD, Cpu, IWKey, Machine, Refused
@@ -356,6 +358,11 @@ def no_backup(s):
     s.write("no-backup-copy-out", 0, COPY_OUT)
     status(s, "no-backup-status", 0, 0)
     expect("no-backup", model.machine_from(s.machine).backup, None)
+    encode(s, "no-backup-encode", KEY_128)
+    expect("no-backup", s.cpu.register(0), 1)
+    load(s, "no-backup-random", A, eax=2, random=block(0xF0) * 3)
+    encode(s, "no-backup-random-encode", KEY_256)
+    expect("no-backup", s.cpu.register(0), 2)
 
 
 def damaged_handle(s):
@@ -475,6 +482,44 @@ def attacks(s):
     not_ready(s)
     zero_integrity_key(s)
     counter_wraps(s)
+
+
+# ---- operands: the handle at 40, and in the registers what leads there
+
+
+def operands(s):
+    memory = block(7) * 2 + bytes(8) + handle(A, KEY_128)
+    s.power_on("operands-power-on", count=2)
+    load(s, "operands-load", A)
+    for name, string, registers in [
+        ("disp8-negative", "f3 0f 38 dc 40 f8", dict(rax=48)),
+        ("disp32-negative", "f3 0f 38 dc 80 00 ff ff ff", dict(rax=0x128)),
+        ("index-scaled", "f3 0f 38 dc 04 c8", dict(rax=16, rcx=3)),
+        ("index-none", "f3 0f 38 dc 04 60", dict(rax=40, rsp=1)),
+        ("index-r12", "f3 42 0f 38 dc 04 20", dict(r12=40)),
+        ("index-alone", "f3 0f 38 dc 04 4d 20 00 00 00", dict(rcx=4, rbp=1)),
+        ("base-none", "f3 0f 38 dc 04 25 28 00 00 00", dict(rsp=1, rbp=1)),
+        ("base-none-rex-b", "f3 41 0f 38 dc 04 25 28 00 00 00", dict(r12=1, r13=1)),
+        ("base-r12", "f3 41 0f 38 dc 04 24", dict(r12=40)),
+        ("base-r13", "f3 41 0f 38 dc 45 00", dict(r13=40)),
+        ("base-rbp", "f3 0f 38 dc 45 00", dict(rbp=40)),
+        ("base-rsp", "f3 0f 38 dc 44 24 08", dict(rsp=32)),
+        ("rip-negative", "f3 0f 38 dc 05 d8 ff ff ff", dict(rip=71)),
+        ("rip-rex-b", "f3 41 0f 38 dc 05 d8 ff ff ff", dict(rip=70, r13=1)),
+        ("over-2-64", "f3 0f 38 dc 40 30", dict(rax=2**64 - 8)),
+        ("rex-w", "f3 48 0f 38 dc 00", dict(rax=40)),
+        ("rip-wraps", "f3 0f 38 dc 00 f3 0f", dict(rax=40, rip=2**64 - 1)),
+        ("wide-rex-r", "f3 44 0f 38 d8 00", dict(rax=40)),
+    ]:
+        expect(name, s.step(f"operands-{name}", string, cpu=record({0: PLAIN}, **registers), memory=memory), 0)
+        expect_opened(s, name, key_locker.cipher(KEY_128, PLAIN))
+    expect("xmm15", s.step("operands-xmm15", "f3 44 0f 38 dc 38", cpu=record({15: PLAIN}, rax=40), memory=memory), 0)
+    expect("xmm15", s.cpu.xmm(15), key_locker.cipher(KEY_128, PLAIN))
+    xmm = {0: B.integrity, 9: B.encryption[:16], 10: B.encryption[16:]}
+    s.step("operands-load-xmm10-xmm9", "f3 45 0f 38 dc d1", 1, cpu=record(xmm))
+    expect("load-xmm10-xmm9", model.machine_from(s.machine).keys[1], B)
+    s.step("operands-encode-r9d-r8d", "f3 45 0f 38 fa c8", 1, cpu=record({0: KEY_128}, r8=6, r9=2**64 - 1))
+    expect("encode-r9d-r8d", (bytes(s.cpu.bytes[:48]), s.cpu.register(9)), (handle(B, KEY_128, 6), 0))
 
 
 # ---- refusals: each meets its own number and later ones, so that the order shows
@@ -627,8 +672,174 @@ def scenarios():
     s = Script()
     examples(s)
     attacks(s)
+    operands(s)
     refusals(s)
     return s
+
+
+# ---- random calls
+
+
+def often(rng, usual, other, chance=0.9):
+    return usual() if rng.random() < chance else other()
+
+
+def random_key(rng):
+    def part(size):
+        return often(rng, lambda: rng.randbytes(size), lambda: bytes(size))
+
+    fresh = IWKey(part(16), part(32), rng.randrange(2), rng.randrange(2))
+    return rng.choice([A, B, model.NO_KEY, fresh])
+
+
+def random_record(rng):
+    """A machine record that refusal 1 takes, or one with a byte changed."""
+    count = rng.randrange(1, 17)
+    keys = [random_key(rng) if p < count else model.NO_KEY for p in range(16)]
+    statuses = [rng.randrange(2) if p < count else 0 for p in range(16)]
+    slots = [rng.choice([None, random_key(rng)]) for _ in range(2)]
+    features = often(rng, lambda: model.ALL_FEATURES, lambda: rng.randrange(64), 0.7)
+    machine = bytearray(Machine(count, features, keys, statuses, *slots, *(rng.randrange(2) for _ in range(4))).to_bytes())
+    if rng.random() < 0.2:
+        at = rng.choice([0, 1, rng.randrange(924), rng.randrange(818, 924), 2 + 51 * rng.randrange(16) + rng.choice([48, 49, 50])])
+        machine[at] = rng.choice([1, 2, 255])
+    return bytes(machine)
+
+
+# The bytes after the opcode, for each form.
+OPERANDS = {form.mnemonic: list(decoder.operand_bytes(random.Random(0), form)) for form in decoder.FORMS}
+
+
+def random_string(rng):
+    form = rng.choice(decoder.FORMS)
+    operands = rng.choice(OPERANDS[form.mnemonic])
+    rex = often(rng, lambda: b"", lambda: bytes([0x40 + rng.randrange(16)]), 0.5)
+    lock = often(rng, lambda: b"", lambda: b"\xf0", 0.97)
+    string = lock + b"\xf3" + rex + bytes([0x0F, 0x38, form.opcode]) + operands
+    return often(rng, lambda: string + rng.randbytes(rng.choice([0, 0, 3])), lambda: decoder.altered(rng, string), 0.95)
+
+
+def random_handle(rng, iwkey):
+    """Mostly of this IWKey and as an encode gives it; sometimes authentic with another AAD, of another IWKey, or damaged."""
+    key = rng.randbytes(rng.choice([16, 32]))
+    iwkey = often(rng, lambda: iwkey, lambda: random_key(rng))
+    bits = aad(key, often(rng, lambda: 0, lambda: rng.randrange(8), 0.6))
+    if rng.random() < 0.1:
+        bits = (int.from_bytes(bits, "little") ^ 1 << rng.choice([rng.randrange(128), rng.randrange(24, 28)])).to_bytes(16, "little")
+    h = bytearray(key_locker.wrap(iwkey.integrity, iwkey.encryption, bits, key))
+    if rng.random() < 0.1:
+        h[rng.randrange(len(h))] ^= 1 << rng.randrange(8)
+    return bytes(h)
+
+
+EDGES = [0, 2**47 - 64, 2**47 - 48, 2**47 - 47, 2**47, 2**64 - 2**47 - 1, 2**64 - 2**47, 2**64 - 48, 2**64 - 1]
+
+
+def aim(rng, cpu, string, at):
+    """Changes the base register, or RIP, so that the string's memory operand is at a place; where there is neither, nothing."""
+    try:
+        i = model.decode(string)
+    except Refused:
+        return
+    if not i.use:
+        return
+    off = at - model.effective_address(cpu, i)[0]
+    base, *others = i.memory[1:-1].replace("-", "+").split("+")
+    if base == "rip":
+        cpu.rip += off
+    elif base in REGISTERS and not any(part.startswith(base + "*") for part in others):
+        n = REGISTERS.index(base)
+        cpu.set_register(n, cpu.register(n) + off)
+
+
+def random_cpu(rng):
+    cpu = Cpu(rng.randbytes(400) + bytes(8))
+    for n in range(16):
+        if rng.random() < 0.8:
+            # encode sources and EAX mostly low, whatever is above bit 31
+            cpu.set_register(n, rng.getrandbits(32) << 32 | often(rng, lambda: rng.randrange(4), lambda: rng.randrange(64)))
+    if rng.random() < 0.05:
+        cpu.rip = 2**64 - rng.randrange(16)
+    cpu.bytes[400] = often(rng, lambda: rng.choice([0, 0, 0, 1, 2, 3]), lambda: rng.randrange(256), 0.99)
+    cpu.bytes[401] = often(rng, lambda: CONTROL, lambda: rng.randrange(32), 0.95)
+    if rng.random() < 0.01:
+        cpu.bytes[rng.randrange(401, 408)] ^= 1 << rng.randrange(8)
+    return cpu
+
+
+def random_step(rng, s, name):
+    processor = often(rng, lambda: rng.randrange(s.machine[0] or 1), lambda: rng.randrange(20), 0.97)
+    string = random_string(rng)
+    cpu = random_cpu(rng)
+    entry = s.machine[2 + 51 * processor :][:50]
+    h = random_handle(rng, IWKey.from_bytes(entry) if processor < 16 else A)
+    before = rng.randrange(64)
+    memory = rng.randbytes(before) + h + rng.randbytes(rng.choice([0, 0, 16, 40]))
+    memory = often(rng, lambda: memory, lambda: memory[: rng.randrange(len(memory))], 0.95)
+    aim(rng, cpu, string, often(rng, lambda: before, lambda: rng.choice(EDGES) + rng.randrange(-1, 2)))
+    record = bytes(cpu.bytes)
+    record = often(rng, lambda: record, lambda: rng.choice([record[:407], record + b"\0", b""]), 0.99)
+    data = rng.randbytes(often(rng, lambda: rng.choice([0, 48]), lambda: rng.randrange(60), 0.98))
+    s.step(name, string, processor, record, memory, data)
+
+
+def random_call(rng, s, name):
+    processor = often(rng, lambda: rng.randrange(s.machine[0] or 1), lambda: rng.randrange(256), 0.95)
+    cpl = often(rng, lambda: 0, lambda: rng.randrange(6), 0.95)
+    kind = rng.choices(["step", "write", "read", "settle", "sleep", "reset", "lend", "power-on"], [30, 10, 4, 4, 3, 1, 4, 1])[0]
+    if kind == "step":
+        random_step(rng, s, name)
+    elif kind == "write":
+        address = often(rng, lambda: rng.choice([COPY_OUT, COPY_IN]), lambda: rng.choice([0x990, 0x991, 0xD90, 0xD93, rng.getrandbits(32)]))
+        s.write(name, processor, address, often(rng, lambda: 1, lambda: rng.choice([0, 2, 3, 2**63, rng.getrandbits(64)])), cpl)
+    elif kind == "read":
+        s.read(name, processor, often(rng, lambda: rng.choice([0x990, 0x991]), lambda: rng.choice([0xD91, 0xD92, rng.getrandbits(32)])), cpl)
+    elif kind == "settle":
+        s.settle(name, often(rng, lambda: rng.randrange(2), lambda: rng.randrange(256)))
+    elif kind == "sleep":
+        s.sleep(name, often(rng, lambda: rng.randrange(3), lambda: rng.randrange(256)))
+    elif kind == "reset":
+        s.reset(name)
+    elif kind == "lend":
+        s.lend(name, random_record(rng))
+    else:
+        s.power_on(name, often(rng, lambda: rng.randrange(1, 17), lambda: rng.randrange(20)), rng.choice([63, 63, rng.randrange(80)]))
+
+
+def compare(s):
+    text = "".join(line + "\n" for line in s.stdin)
+    assert len(text) <= STDIN_LIMIT
+    run = subprocess.run([PROGRAM], input=text, capture_output=True, text=True, check=True)
+    found = run.stdout.splitlines()
+    for given, wanted, line in zip(s.stdin, s.stdout, found):
+        if line != wanted:
+            sys.exit(f"of this call\n{given}\nthe model says\n{wanted}\nand scenarios\n{line}")
+    if len(found) != len(s.stdout):
+        sys.exit(f"scenarios wrote {len(found)} lines for {len(s.stdin)} calls")
+
+
+def compare_random(calls, seed):
+    """In runs of as many calls as the program reads."""
+    rng = random.Random(seed)
+    answers = Counter()
+    while calls > 0:
+        s = Script()
+        s.lend("begin", random_record(rng))
+        for number in range(min(calls, 25)):
+            random_call(rng, s, f"random-{number}")
+        compare(s)
+        calls -= 25
+        answers.update(answer(line) for line in s.stdout)
+    print("scenarios says what the model says:")
+    for what, count in sorted(answers.items()):
+        print(f"{count:6} {what}")
+
+
+def answer(line):
+    """The kind of call, its number, and ZF."""
+    words = line.split()
+    zf = f" zf {words[words.index('zf') + 1]}" if "zf" in words else ""
+    return f"{words[1]} {words[2] if words[2].isdigit() else ''}{zf}"
 
 
 # ---- the files
@@ -657,6 +868,9 @@ def main(args):
         write()
     elif args == ["--check"]:
         check()
+    elif len(args) == 3 and args[0] == "--random":
+        scenarios()
+        compare_random(int(args[1]), int(args[2]))
     else:
         sys.exit(__doc__)
 
