@@ -1,5 +1,6 @@
 // A step on a lent machine and a lent CPU record: both are found advanced after the call, and as they were where it is refused.
-// The borrow checker covers no function over a reference to a struct: `step_lent` is thin and proved by hand, and `take_step` does the work.
+// The borrow checker covers no function over a reference to a struct, and none that lends one: `step_lent` and `step_through` are thin and proved by hand,
+// and `take_step` does the work.
 ghost use mathlib.Core.Path.{_≡_};
 ghost use lib.ListN.{length};
 ghost use Rattle.model.specs.Calls.{step};
@@ -61,4 +62,20 @@ pub fn step_lent(
     let r = take_step(*m, processor, cpu, memory, random, string);
     *m = r.machine;
     r.answer
+}
+
+// A step with the machine by value, through `step_lent`: a local machine is lent.
+pub fn step_through(
+    m: Machine,
+    processor: u8,
+    cpu: &mut [u8],
+    memory: &[u8],
+    random: &[u8],
+    string: &[u8],
+) -> Taken
+    ensures { λ t. ⌜ left (t .answer) (t .machine) (now (cpu .exit)) ≡ leftOf (model.call m (step (record { processor = processor; cpu = now (cpu .entry); memory = now (memory .entry); random = now (random .entry); string = now (string .entry) }))) ⌝ }
+{
+    let mut n = m;
+    let answer = step_lent(&mut n, processor, cpu, memory, random, string);
+    Taken { machine: n, answer }
 }
