@@ -7,7 +7,7 @@ ghost use Rattle.model.specs.Lent.{powerOnLent, callLent};
 ghost use Rattle.keylocker.specs.Form.{called, calledOf, finished, readCalled, readCalledOf, stepCalled, stepCalledOf};
 use layout::read_machine;
 use layout::write_machine;
-use lent::take_step;
+use lent::step_through;
 use machine::Answer;
 use machine::Outcome;
 
@@ -131,7 +131,7 @@ pub extern "C" fn keylocker_step(
         return 1;
     }
     let m = read_machine(machine);
-    let t = take_step(m, processor, cpu, memory, random, string);
+    let t = step_through(m, processor, cpu, memory, random, string);
     let after = t.machine;
     let answer = t.answer;
     let o = Outcome {

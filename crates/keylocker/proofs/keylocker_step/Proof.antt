@@ -18,8 +18,8 @@ returns c =
 read-machine-requires : tie.Need-read-machine-requires
 read-machine-requires c κs = search needs
 
-take-step-requires : tie.Need-take-step-requires
-take-step-requires c κs = search needs
+step-through-requires : tie.Need-step-through-requires
+step-through-requires c κs = search needs
 
 finish-requires : tie.Need-finish-requires
 finish-requires c κs = search needs
@@ -34,9 +34,9 @@ returns-2 : tie.Need-returns-2
 returns-2 c =
     let a = c .before .before .before .before .before .before .before .before .before .before .before .before .before .before .before .before .before .args in
     let s : StepCall = record { processor = a .processor; cpu = a .cpu .now; memory = a .memory .now; random = a .random .now; string = a .string .now } in
-    let t = c .before .before .before .before .before .before .before .take-step .result in
+    let t = c .before .before .before .before .before .before .before .step-through .result in
     step-called (a .machine .now) s (t .answer) (t .machine) _ _ _ (search needs)
-    (c .before .before .before .before .before .before .before .take-step .ensures ∙ ap (λ (m : Machine). leftOf (call m (model.step s))) (c .before .before .before .before .before .before .before .before .before .read-machine .ensures)) (c .before .before .finish .ensures)
+    (c .before .before .before .before .before .before .before .step-through .ensures ∙ ap (λ (m : Machine). leftOf (call m (model.step s))) (c .before .before .before .before .before .before .before .before .before .read-machine .ensures)) (c .before .before .finish .ensures)
 
 pub keylocker-step-spec : {M : Type 1} → statement M
 keylocker-step-spec =
@@ -44,7 +44,7 @@ keylocker-step-spec =
     (tie.spec
     returns
     read-machine-requires
-    take-step-requires
+    step-through-requires
     finish-requires
     same-length
     same-length-2
