@@ -148,14 +148,22 @@ pub fn encrypt_blocks_with(
     }
 }
 
+// Every whole block of the bytes, by a lent S-box.
+pub fn encrypt_blocks_by(u: &[u8; 256], size: KeySize, w: &[u32; 60], bytes: &mut [u8])
+    requires { ⌜ TableOf sbox (now u) ⌝ }
+    ensures { λ _. ⌜ now (bytes .exit) ≡ mapBlocks (cipher (schedule size (now (w .entry))) (nr size)) (length (now (bytes .entry)) / 16) (now (bytes .entry)) ⌝ }
+{
+    let mut t = [0u32; 1024];
+    fill_tables(Direction::Encrypt, u, &mut t);
+    encrypt_blocks_with(&t, u, size, w, bytes);
+}
+
 // Every whole block of the bytes; what is left at the end stays.
 pub fn encrypt_blocks(size: KeySize, w: &[u32; 60], bytes: &mut [u8])
     ensures { λ _. ⌜ now (bytes .exit) ≡ mapBlocks (cipher (schedule size (now (w .entry))) (nr size)) (length (now (bytes .entry)) / 16) (now (bytes .entry)) ⌝ }
 {
     let u = sbox_table();
-    let mut t = [0u32; 1024];
-    fill_tables(Direction::Encrypt, &u, &mut t);
-    encrypt_blocks_with(&t, &u, size, w, bytes);
+    encrypt_blocks_by(&u, size, w, bytes);
 }
 
 pub fn decrypt_blocks_with(

@@ -4,6 +4,7 @@ ghost use mathlib.Core.List.{[], _∷_};
 ghost use Prim.Native.Nat.{_/_};
 ghost use lib.ListN.{length};
 ghost use Rattle.bits.specs.Blocks.{mapBlocks};
+ghost use Rattle.fips197.specs.Sbox.{sbox, TableOf};
 ghost use Rattle.aes.specs.Form.{bytesOf, keyBytes};
 ghost use Rattle.keywrap.specs.Form.{opened, paddedKey, handleBytes};
 ghost use Rattle.model.specs.Cpu.{cpl, withXmm, withZf, mapXmm};
@@ -12,20 +13,21 @@ use aes::Block;
 use aes::Direction;
 use aes::Key;
 use aes::KeySize;
-use aes::cipher::encrypt_block;
+use aes::cipher::encrypt_with;
 use aes::inv_cipher::decrypt_block;
 use aes::word::from_bytes;
 use aes::word::key_from_bytes;
 use aes_blocks::decrypt_blocks;
-use aes_blocks::encrypt_blocks;
-use aes_key::key_expansion;
+use aes_blocks::encrypt_blocks_by;
+use aes_key::expand_with;
 use cpu::put_xmm;
 use cpu::put_zf;
 use cpu::xmm;
 use keywrap::Handle;
 use keywrap::Unwrapped;
-use keywrap::siv::unwrap;
+use keywrap::siv::unwrap_with;
 use model::IwKey;
+use sbox::sbox_table;
 
 fn forbids(direction: Direction, restrictions: u32) -> bool
     ensures { λ r. ⌜ r ≡ model.forbids direction restrictions ⌝ }
@@ -58,8 +60,16 @@ fn illegal(cpl: u8, size: KeySize, direction: Direction, aad: Block) -> bool
         | forbids(direction, w % 8)
 }
 
-// An illegal handle is not unwrapped.
-pub fn opened_for(k: IwKey, cpl: u8, size: KeySize, direction: Direction, h: Handle) -> Unwrapped
+// An illegal handle is not unwrapped. The S-box is lent.
+pub fn opened_for(
+    t: &[u8; 256],
+    k: IwKey,
+    cpl: u8,
+    size: KeySize,
+    direction: Direction,
+    h: Handle,
+) -> Unwrapped
+    requires { ⌜ TableOf sbox (now t) ⌝ }
     ensures { λ r. ⌜ opened r ≡ paddedKey (model.openedFor k cpl size direction (handleBytes size h)) ⌝ }
 {
     if illegal(cpl, size, direction, h.aad) {
@@ -67,27 +77,41 @@ pub fn opened_for(k: IwKey, cpl: u8, size: KeySize, direction: Direction, h: Han
     }
     let integrity = k.integrity;
     let encryption = k.encryption;
-    unwrap(size, from_bytes(integrity), key_from_bytes(encryption), h)
+    unwrap_with(
+        t,
+        size,
+        from_bytes(integrity),
+        key_from_bytes(encryption),
+        h,
+    )
 }
 
 // ---- blocks
 
-fn cipher_block(direction: Direction, size: KeySize, key: Key, b: Block) -> Block
+fn cipher_block(t: &[u8; 256], direction: Direction, size: KeySize, key: Key, b: Block) -> Block
+    requires { ⌜ TableOf sbox (now t) ⌝ }
     ensures { λ r. ⌜ bytesOf r ≡ model.aes direction size (keyBytes size key) (bytesOf b) ⌝ }
 {
-    let w = key_expansion(size, key);
+    let w = expand_with(t, size, key);
     match direction {
-        Direction::Encrypt => encrypt_block(size, &w, b),
+        Direction::Encrypt => encrypt_with(t, size, &w, b),
         Direction::Decrypt => decrypt_block(size, &w, b),
     }
 }
 
-fn cipher_blocks(direction: Direction, size: KeySize, key: Key, bytes: &mut [u8])
+fn cipher_blocks(
+    t: &[u8; 256],
+    direction: Direction,
+    size: KeySize,
+    key: Key,
+    bytes: &mut [u8],
+)
+    requires { ⌜ TableOf sbox (now t) ⌝ }
     ensures { λ _. ⌜ now (bytes .exit) ≡ mapBlocks (model.aes direction size (keyBytes size key)) (length (now (bytes .entry)) / 16) (now (bytes .entry)) ⌝ }
 {
-    let w = key_expansion(size, key);
+    let w = expand_with(t, size, key);
     match direction {
-        Direction::Encrypt => encrypt_blocks(size, &w, bytes),
+        Direction::Encrypt => encrypt_blocks_by(t, size, &w, bytes),
         Direction::Decrypt => decrypt_blocks(size, &w, bytes),
     }
 }
@@ -112,11 +136,18 @@ fn done_single(cpu: [u8; 408], n: u8, b: Block) -> [u8; 408]
 }
 
 // XMM0 to XMM7 are the first 128 bytes of the record.
-fn done_wide(direction: Direction, size: KeySize, key: Key, cpu: [u8; 408]) -> [u8; 408]
+fn done_wide(
+    t: &[u8; 256],
+    direction: Direction,
+    size: KeySize,
+    key: Key,
+    cpu: [u8; 408],
+) -> [u8; 408]
+    requires { ⌜ TableOf sbox (now t) ⌝ }
     ensures { λ r. ⌜ r ≡ withZf 0 (mapXmm (model.aes direction size (keyBytes size key)) (0 ∷ 1 ∷ 2 ∷ 3 ∷ 4 ∷ 5 ∷ 6 ∷ 7 ∷ []) cpu) ⌝ }
 {
     let mut c = cpu;
-    cipher_blocks(direction, size, key, &mut c[0..128]);
+    cipher_blocks(t, direction, size, key, &mut c[0..128]);
     put_zf(&mut c, 0);
     c
 }
@@ -132,11 +163,12 @@ pub fn use_single(
 ) -> [u8; 408]
     ensures { λ r. ⌜ r ≡ model.ciphered direction size (block ∷ []) (model.openedFor k (cpl cpu) size direction (handleBytes size h)) cpu ⌝ }
 {
+    let t = sbox_table();
     let level = cpu::cpl(&cpu);
-    let Unwrapped::Key(key) = opened_for(k, level, size, direction, h) else {
+    let Unwrapped::Key(key) = opened_for(&t, k, level, size, direction, h) else {
         return failed(cpu);
     };
-    let b = cipher_block(direction, size, key, xmm(&cpu, block));
+    let b = cipher_block(&t, direction, size, key, xmm(&cpu, block));
     done_single(cpu, block, b)
 }
 
@@ -150,9 +182,10 @@ pub fn use_wide(
 ) -> [u8; 408]
     ensures { λ r. ⌜ r ≡ model.ciphered direction size (0 ∷ 1 ∷ 2 ∷ 3 ∷ 4 ∷ 5 ∷ 6 ∷ 7 ∷ []) (model.openedFor k (cpl cpu) size direction (handleBytes size h)) cpu ⌝ }
 {
+    let t = sbox_table();
     let level = cpu::cpl(&cpu);
-    let Unwrapped::Key(key) = opened_for(k, level, size, direction, h) else {
+    let Unwrapped::Key(key) = opened_for(&t, k, level, size, direction, h) else {
         return failed(cpu);
     };
-    done_wide(direction, size, key, cpu)
+    done_wide(&t, direction, size, key, cpu)
 }

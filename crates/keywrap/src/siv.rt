@@ -125,16 +125,29 @@ pub fn wrap(size: KeySize, integrity: Block, encryption: Key, aad: Block, key: K
     }
 }
 
-// UnwrapKeyAndAuthenticate384 and UnwrapKeyAndAuthenticate512.
-pub fn unwrap(size: KeySize, integrity: Block, encryption: Key, handle: Handle) -> Unwrapped
+// UnwrapKeyAndAuthenticate384 and UnwrapKeyAndAuthenticate512, by a lent S-box.
+pub fn unwrap_with(
+    t: &[u8; 256],
+    size: KeySize,
+    integrity: Block,
+    encryption: Key,
+    handle: Handle,
+) -> Unwrapped
+    requires { ⌜ TableOf sbox (now t) ⌝ }
     ensures { λ r. ⌜ opened r ≡ paddedKey (unwrapKey (bytesOf integrity) (keyBytes Aes256 encryption) (handleBytes size handle)) ⌝ }
 {
-    let t = sbox_table();
-    let w = expand_with(&t, KeySize::Aes256, encryption);
-    let key = mask_with(&t, &w, handle.tag, size, handle.ciphertext);
-    let tag = tag_with(&t, &w, integrity, handle.aad, size, key);
+    let w = expand_with(t, KeySize::Aes256, encryption);
+    let key = mask_with(t, &w, handle.tag, size, handle.ciphertext);
+    let tag = tag_with(t, &w, integrity, handle.aad, size, key);
     if same(tag, handle.tag) {
         return Unwrapped::Key(key);
     }
     Unwrapped::Refused
+}
+
+pub fn unwrap(size: KeySize, integrity: Block, encryption: Key, handle: Handle) -> Unwrapped
+    ensures { λ r. ⌜ opened r ≡ paddedKey (unwrapKey (bytesOf integrity) (keyBytes Aes256 encryption) (handleBytes size handle)) ⌝ }
+{
+    let t = sbox_table();
+    unwrap_with(&t, size, integrity, encryption, handle)
 }

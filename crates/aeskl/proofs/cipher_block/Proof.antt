@@ -11,14 +11,14 @@ use borrow.Author.Needs.{needs}
 use Rattle.aeskl.proofs.cipher_block.Statement.{statement}
 use Rattle.aeskl.proofs.cipher_block.Tie as tie
 
-key-expansion-requires : tie.Need-key-expansion-requires
-key-expansion-requires c κs = search needs
+expand-with-requires : tie.Need-expand-with-requires
+expand-with-requires c κs = search needs
 
 enum-told : tie.Need-enum-told
 enum-told c = search needs
 
-encrypt-block-requires : tie.Need-encrypt-block-requires
-encrypt-block-requires c κs = search needs
+encrypt-with-requires : tie.Need-encrypt-with-requires
+encrypt-with-requires c κs = search needs
 
 enum-told-2 : tie.Need-enum-told-2
 enum-told-2 c = search needs
@@ -30,8 +30,8 @@ returns : tie.Need-returns
 unfolding encrypt
 returns c =
     let a = c .before .before .before .before .before .args in
-    c .encrypt-block .ensures
-    ∙ ap (λ (w : List ℕ). cipher w (nr (a .size)) (bytesOf (a .b))) (c .before .before .before .before .key-expansion .ensures)
+    c .encrypt-with .ensures
+    ∙ ap (λ (w : List ℕ). cipher w (nr (a .size)) (bytesOf (a .b))) (c .before .before .before .before .expand-with .ensures)
     ∙ ap (λ (d : Direction). aes d (a .size) (keyBytes (a .size) (a .key)) (bytesOf (a .b))) (sym (c .before .before .enum-told .given .1))
 
 returns-2 : tie.Need-returns-2
@@ -39,16 +39,16 @@ unfolding decrypt
 returns-2 c =
     let a = c .before .before .before .before .before .args in
     c .decrypt-block .ensures
-    ∙ ap (λ (w : List ℕ). invCipher w (nr (a .size)) (bytesOf (a .b))) (c .before .before .before .before .key-expansion .ensures)
+    ∙ ap (λ (w : List ℕ). invCipher w (nr (a .size)) (bytesOf (a .b))) (c .before .before .before .before .expand-with .ensures)
     ∙ ap (λ (d : Direction). aes d (a .size) (keyBytes (a .size) (a .key)) (bytesOf (a .b))) (sym (c .before .before .enum-told2 .given .1))
 
 pub cipher-block-spec : {M : Type 1} → statement M
 cipher-block-spec =
     tie.close
     (tie.spec
-    key-expansion-requires
+    expand-with-requires
     enum-told
-    encrypt-block-requires
+    encrypt-with-requires
     enum-told-2
     decrypt-block-requires
     returns

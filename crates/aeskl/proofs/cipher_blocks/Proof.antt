@@ -13,14 +13,14 @@ use borrow.Author.Needs.{needs}
 use Rattle.aeskl.proofs.cipher_blocks.Statement.{statement}
 use Rattle.aeskl.proofs.cipher_blocks.Tie as tie
 
-key-expansion-requires : tie.Need-key-expansion-requires
-key-expansion-requires c κs = search needs
+expand-with-requires : tie.Need-expand-with-requires
+expand-with-requires c κs = search needs
 
 enum-told : tie.Need-enum-told
 enum-told c = search needs
 
-encrypt-blocks-requires : tie.Need-encrypt-blocks-requires
-encrypt-blocks-requires c κs = search needs
+encrypt-blocks-by-requires : tie.Need-encrypt-blocks-by-requires
+encrypt-blocks-by-requires c κs = search needs
 
 enum-told-2 : tie.Need-enum-told-2
 enum-told-2 c = search needs
@@ -36,8 +36,8 @@ unfolding encrypt
 returns c =
     let a = c .before .before .before .before .before .before .before .before .before .args in
     let s = a .bytes .now in
-    c .before .before .encrypt-blocks .ensures
-    ∙ ap (λ (w : List ℕ). mapBlocks (cipher w (nr (a .size))) (length s / 16) s) (c .before .before .before .before .before .before .before .key-expansion .ensures)
+    c .before .before .encrypt-blocks-by .ensures
+    ∙ ap (λ (w : List ℕ). mapBlocks (cipher w (nr (a .size))) (length s / 16) s) (c .before .before .before .before .before .before .before .expand-with .ensures)
     ∙ ap (λ (d : Direction). mapBlocks (aes d (a .size) (keyBytes (a .size) (a .key))) (length s / 16) s) (sym (c .before .before .before .before .before .enum-told .given .1))
 
 same-length-2 : tie.Need-same-length-2
@@ -49,16 +49,16 @@ returns-2 c =
     let a = c .before .before .before .before .before .before .before .before .before .args in
     let s = a .bytes .now in
     c .before .before .decrypt-blocks .ensures
-    ∙ ap (λ (w : List ℕ). mapBlocks (invCipher w (nr (a .size))) (length s / 16) s) (c .before .before .before .before .before .before .before .key-expansion .ensures)
+    ∙ ap (λ (w : List ℕ). mapBlocks (invCipher w (nr (a .size))) (length s / 16) s) (c .before .before .before .before .before .before .before .expand-with .ensures)
     ∙ ap (λ (d : Direction). mapBlocks (aes d (a .size) (keyBytes (a .size) (a .key))) (length s / 16) s) (sym (c .before .before .before .before .before .enum-told2 .given .1))
 
 pub cipher-blocks-spec : {M : Type 1} → statement M
 cipher-blocks-spec =
     tie.close
     (tie.spec
-    key-expansion-requires
+    expand-with-requires
     enum-told
-    encrypt-blocks-requires
+    encrypt-blocks-by-requires
     enum-told-2
     decrypt-blocks-requires
     same-length

@@ -22,13 +22,13 @@ from-bytes-requires c κs = search needs
 key-from-bytes-requires : tie.Need-key-from-bytes-requires
 key-from-bytes-requires c κs = search needs
 
-unwrap-requires : tie.Need-unwrap-requires
-unwrap-requires c κs = search needs
+unwrap-with-requires : tie.Need-unwrap-with-requires
+unwrap-with-requires c κs = search needs
 
 returns-2 : tie.Need-returns-2
 returns-2 c =
     let a = c .before .before .before .before .before .before .before .args in
-    c .unwrap .ensures
+    c .unwrap-with .ensures
     ∙ ap₂ (λ (i e : List ℕ). paddedKey (unwrapKey i e (handleBytes (a .size) (a .h)))) (c .before .before .from-bytes .ensures) (c .before .key-from-bytes .ensures)
     ∙ ap paddedKey (unwrapped (a .k) (a .cpl) (a .size) (a .direction) (a .h) (sym (c .before .before .before .before .before .before .illegal .ensures) ∙ c .before .before .before .before .before .if1 .left))
 
@@ -40,5 +40,5 @@ opened-for-spec =
     returns
     from-bytes-requires
     key-from-bytes-requires
-    unwrap-requires
+    unwrap-with-requires
     returns-2)

@@ -1,7 +1,8 @@
-use mathlib.Core.Path.{_∙_, sym, ap}
+use mathlib.Core.Path.{_≡_, _∙_, sym, ap}
 use mathlib.Core.List.{List, [], _∷_}
 use mathlib.Core.Option.{Option}
 use Prim.Native.Nat.{ℕ}
+use lib.ListN.{length}
 use Rattle.aes.specs.Form.{keyBytes}
 use Rattle.keywrap.specs.Form.{opened, paddedKey, handleBytes}
 use Rattle.model.specs.Cpu.{cpl, withXmm, withZf}
@@ -10,6 +11,9 @@ use Rattle.aeskl.proofs.Openings.{opened-key, opened-none}
 use borrow.Author.Needs.{needs}
 use Rattle.aeskl.proofs.use_single.Statement.{statement}
 use Rattle.aeskl.proofs.use_single.Tie as tie
+
+sbox-table-requires : tie.Need-sbox-table-requires
+sbox-table-requires c κs = search needs
 
 slice-aggregate-cpl : tie.Need-slice-aggregate-cpl
 slice-aggregate-cpl c = search needs
@@ -31,19 +35,22 @@ failed-requires c κs = search needs
 
 returns : tie.Need-returns
 returns c =
-    let a = c .before .before .before .before .before .before .args in
+    let a = c .before .before .before .before .before .before .before .before .args in
     let cpu = a .t6 in
-    let level = ap (λ (n : ℕ). paddedKey (openedFor (a .k) n (a .size) (a .direction) (handleBytes (a .size) (a .h)))) (c .before .before .before .before .cpl .ensures) in
+    let level = ap (λ (n : ℕ). paddedKey (openedFor (a .k) n (a .size) (a .direction) (handleBytes (a .size) (a .h)))) (c .before .before .before .before .before .cpl .ensures) in
     let none-given = sym (ap opened (c .before .enum-told .given .1)) ∙ c .before .before .before .opened-for .ensures ∙ level in
     c .failed .ensures
     ∙ ap (λ (x : Option (List ℕ)). ciphered (a .direction) (a .size) (a .block ∷ []) x cpu)
     (sym (opened-none (a .k) (cpl cpu) (a .size) (a .direction) (a .h) none-given))
 
+sized : (c : tie.Start) → length (c .args .t6) ≡ 408
+sized c = search needs
+
 slice-aggregate-xmm : tie.Need-slice-aggregate-xmm
-slice-aggregate-xmm c = search needs
+slice-aggregate-xmm c = sym (sized (c .before .before .before .before .before .before .before .before .before .before))
 
 xmm-requires : tie.Need-xmm-requires
-xmm-requires c κs = search needs
+xmm-requires c κs = sized (c .before .before .before .before .before .before .before .before .before .before)
 
 cipher-block-requires : tie.Need-cipher-block-requires
 cipher-block-requires c κs = search needs
@@ -53,11 +60,11 @@ done-single-requires c κs = search needs
 
 returns-2 : tie.Need-returns-2
 returns-2 c =
-    let a = c .before .before .before .before .before .before .before .before .before .before .args in
+    let a = c .before .before .before .before .before .before .before .before .before .before .before .before .before .args in
     let cpu = a .t6 in
-    let key = c .before .before .before .before .before .key .given .0 .0 in
-    let level = ap (λ (n : ℕ). paddedKey (openedFor (a .k) n (a .size) (a .direction) (handleBytes (a .size) (a .h)))) (c .before .before .before .before .before .before .before .before .cpl .ensures) in
-    let key-given = sym (ap opened (c .before .before .before .before .before .key .given .1)) ∙ c .before .before .before .before .before .before .before .opened-for .ensures ∙ level in
+    let key = c .before .before .before .before .before .before .key .given .0 .0 in
+    let level = ap (λ (n : ℕ). paddedKey (openedFor (a .k) n (a .size) (a .direction) (handleBytes (a .size) (a .h)))) (c .before .before .before .before .before .before .before .before .before .before .cpl .ensures) in
+    let key-given = sym (ap opened (c .before .before .before .before .before .before .key .given .1)) ∙ c .before .before .before .before .before .before .before .before .opened-for .ensures ∙ level in
     c .done-single .ensures
     ∙ ap (λ (b : List ℕ). withZf 0 (withXmm (a .block) b cpu))
     (c .before .cipher-block .ensures ∙ ap (aes (a .direction) (a .size) (keyBytes (a .size) key)) (c .before .before .xmm .ensures))
@@ -68,6 +75,7 @@ pub use-single-spec : {M : Type 1} → statement M
 use-single-spec =
     tie.close
     (tie.spec
+    sbox-table-requires
     slice-aggregate-cpl
     cpl-requires
     opened-for-requires

@@ -10,6 +10,9 @@ use borrow.Author.Needs.{needs}
 use Rattle.aeskl.proofs.use_wide.Statement.{statement}
 use Rattle.aeskl.proofs.use_wide.Tie as tie
 
+sbox-table-requires : tie.Need-sbox-table-requires
+sbox-table-requires c κs = search needs
+
 slice-aggregate-cpl : tie.Need-slice-aggregate-cpl
 slice-aggregate-cpl c = search needs
 
@@ -30,9 +33,9 @@ failed-requires c κs = search needs
 
 returns : tie.Need-returns
 returns c =
-    let a = c .before .before .before .before .before .before .args in
+    let a = c .before .before .before .before .before .before .before .before .args in
     let cpu = a .t5 in
-    let level = ap (λ (n : ℕ). paddedKey (openedFor (a .k) n (a .size) (a .direction) (handleBytes (a .size) (a .h)))) (c .before .before .before .before .cpl .ensures) in
+    let level = ap (λ (n : ℕ). paddedKey (openedFor (a .k) n (a .size) (a .direction) (handleBytes (a .size) (a .h)))) (c .before .before .before .before .before .cpl .ensures) in
     let none-given = sym (ap opened (c .before .enum-told .given .1)) ∙ c .before .before .before .opened-for .ensures ∙ level in
     c .failed .ensures
     ∙ ap (λ (x : Option (List ℕ)). ciphered (a .direction) (a .size) (0 ∷ 1 ∷ 2 ∷ 3 ∷ 4 ∷ 5 ∷ 6 ∷ 7 ∷ []) x cpu)
@@ -43,11 +46,11 @@ done-wide-requires c κs = search needs
 
 returns-2 : tie.Need-returns-2
 returns-2 c =
-    let a = c .before .before .before .before .before .before .before .args in
+    let a = c .before .before .before .before .before .before .before .before .before .before .args in
     let cpu = a .t5 in
-    let key = c .before .before .key .given .0 .0 in
-    let level = ap (λ (n : ℕ). paddedKey (openedFor (a .k) n (a .size) (a .direction) (handleBytes (a .size) (a .h)))) (c .before .before .before .before .before .cpl .ensures) in
-    let key-given = sym (ap opened (c .before .before .key .given .1)) ∙ c .before .before .before .before .opened-for .ensures ∙ level in
+    let key = c .before .before .before .key .given .0 .0 in
+    let level = ap (λ (n : ℕ). paddedKey (openedFor (a .k) n (a .size) (a .direction) (handleBytes (a .size) (a .h)))) (c .before .before .before .before .before .before .before .cpl .ensures) in
+    let key-given = sym (ap opened (c .before .before .before .key .given .1)) ∙ c .before .before .before .before .before .opened-for .ensures ∙ level in
     c .done-wide .ensures
     ∙ ap (λ (x : Option (List ℕ)). ciphered (a .direction) (a .size) (0 ∷ 1 ∷ 2 ∷ 3 ∷ 4 ∷ 5 ∷ 6 ∷ 7 ∷ []) x cpu)
     (sym (opened-key (a .k) (cpl cpu) (a .size) (a .direction) (a .h) key key-given))
@@ -56,6 +59,7 @@ pub use-wide-spec : {M : Type 1} → statement M
 use-wide-spec =
     tie.close
     (tie.spec
+    sbox-table-requires
     slice-aggregate-cpl
     cpl-requires
     opened-for-requires
