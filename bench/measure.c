@@ -41,9 +41,11 @@ static size_t enough_reps(int core, const struct row *row, slice_fn *slice_ns)
     return reps;
 }
 
+static int cores_of(const struct row *row) { return row->alone ? PROVED + 1 : CORES; }
+
 static void prepare(struct row *row, slice_fn *slice_ns)
 {
-    for (int i = 0; i < CORES; i++) {
+    for (int i = 0; i < cores_of(row); i++) {
         row->reps[i] = enough_reps(i, row, slice_ns);
         row->ns[i] = HUGE_VAL;
     }
@@ -54,9 +56,9 @@ static void measure(struct row *row, slice_fn *slice_ns)
 {
     double total[CORES] = {0};
     for (int slice = 0; slice < SLICES; slice++)
-        for (int i = 0; i < CORES; i++)
+        for (int i = 0; i < cores_of(row); i++)
             total[i] += slice_ns(i, row, row->reps[i]);
-    for (int i = 0; i < CORES; i++) {
+    for (int i = 0; i < cores_of(row); i++) {
         size_t units = SLICES * row->reps[i] * (row->blocks ? row->blocks : 1);
         double ns = total[i] / (double)units;
         if (ns < row->ns[i])

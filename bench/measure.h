@@ -3,6 +3,7 @@
 #ifndef MEASURE_H
 #define MEASURE_H
 
+#include <stdbool.h>
 #include <stddef.h>
 #include <stdint.h>
 
@@ -19,6 +20,8 @@ struct row {
     uint8_t size;
     int op; // of the program's own enum
     size_t blocks;
+    bool alone;    // no core does the like
+    uint8_t count; // of processors, where the program has any
     size_t reps[CORES];
     double ns[CORES];
 };

@@ -128,19 +128,17 @@ fn done(m: Machine) -> Outcome
 }
 
 // Processor p; every caller's p is below the count, so that the remainder is p itself.
-fn processor_at(l: [Processor; 16], p: u8) -> Processor
-    ensures { λ r. ⌜ r ≡ getD l (p % 16) noProcessor ⌝ }
+fn processor_at(m: Machine, p: u8) -> Processor
+    ensures { λ r. ⌜ r ≡ getD (m .processors) (p % 16) noProcessor ⌝ }
 {
-    l[(p % 16) as usize]
+    m.processors[(p % 16) as usize]
 }
 
-fn with_processor(m: Machine, l: [Processor; 16], p: u8, e: Processor) -> Machine
-    ensures { λ r. ⌜ r ≡ withProcessors (set l (p % 16) e) m ⌝ }
+fn with_processor(m: Machine, p: u8, e: Processor) -> Machine
+    ensures { λ r. ⌜ r ≡ withProcessors (set (m .processors) (p % 16) e) m ⌝ }
 {
-    let mut k = l;
-    k[(p % 16) as usize] = e;
     let mut n = m;
-    n.processors = k;
+    n.processors[(p % 16) as usize] = e;
     n
 }
 
@@ -202,9 +200,8 @@ pub fn read(m: Machine, processor: u8, cpl: u8, address: u32) -> Outcome
     if n != 0 {
         return refused(m, n);
     }
-    let l = m.processors;
     let f = m.platform;
-    let value = read_register(address, processor_at(l, processor), f);
+    let value = read_register(address, processor_at(m, processor), f);
     Outcome {
         machine: m,
         answer: Answer::Done,
@@ -222,12 +219,11 @@ pub fn write(m: Machine, processor: u8, cpl: u8, address: u32, value: u64) -> Ou
     if n != 0 {
         return refused(m, n);
     }
-    let l = m.processors;
     let f = m.platform;
-    let x = write_register(address, value, processor_at(l, processor), f);
+    let x = write_register(address, value, processor_at(m, processor), f);
     let e = x.processor;
     let g = x.platform;
-    let mut k = with_processor(m, l, processor, e);
+    let mut k = with_processor(m, processor, e);
     k.platform = g;
     done(k)
 }
@@ -283,8 +279,8 @@ fn refused_step(m: Machine, n: u8) -> Stepped
 }
 
 // The IWKey goes back to its processor.
-fn done_step(m: Machine, l: [Processor; 16], p: u8, e: Processor, x: Executed) -> Stepped
-    ensures { λ r. ⌜ r ≡ record { machine = withProcessors (set l (p % 16) (withKey (x .key) e)) m; answer = Done; cpu = x .cpu } ⌝ }
+fn done_step(m: Machine, p: u8, e: Processor, x: Executed) -> Stepped
+    ensures { λ r. ⌜ r ≡ record { machine = withProcessors (set (m .processors) (p % 16) (withKey (x .key) e)) m; answer = Done; cpu = x .cpu } ⌝ }
 {
     let key = x.key;
     let cpu = x.cpu;
@@ -293,7 +289,7 @@ fn done_step(m: Machine, l: [Processor; 16], p: u8, e: Processor, x: Executed) -
         copy_status: e.copy_status,
     };
     Stepped {
-        machine: with_processor(m, l, p, entry),
+        machine: with_processor(m, p, entry),
         answer: Answer::Done,
         cpu,
     }
@@ -325,9 +321,8 @@ pub fn step(
     if n != 0 {
         return refused_step(m, n);
     }
-    let l = m.processors;
-    let e = processor_at(l, processor);
+    let e = processor_at(m, processor);
     let key = e.key;
     let x = executed(d, memory, random_of(random), key, record_of(cpu));
-    done_step(m, l, processor, e, x)
+    done_step(m, processor, e, x)
 }

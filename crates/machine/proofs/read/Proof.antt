@@ -46,11 +46,11 @@ read-register-requires c κs = search needs
 
 returns-3 : tie.Need-returns-3
 returns-3 c =
-    let a = c .before .before .before .before .before .before .before .before .args in
+    let a = c .before .before .before .before .before .before .before .args in
     let m = a .m in
-    let v = sym (c .before .before .before .before .before .before .before .valid .ensures) ∙ not-false (c .before .before .before .before .before .before .before .valid .result) (c .before .before .before .before .before .before .if1 .left) in
+    let v = sym (c .before .before .before .before .before .before .valid .ensures) ∙ not-false (c .before .before .before .before .before .before .valid .result) (c .before .before .before .before .before .if1 .left) in
     (λ j. record { machine = m; answer = Done; value = c .read-register .ensures j })
-    ∙ read-done m v (record { processor = a .processor; cpl = a .cpl; address = a .address }) (sym (c .before .before .before .before .before .read-refusal .ensures) ∙ c .before .before .before .before .if2 .left) (c .before .processor-at .result) (c .before .processor-at .ensures)
+    ∙ read-done m v (record { processor = a .processor; cpl = a .cpl; address = a .address }) (sym (c .before .before .before .before .read-refusal .ensures) ∙ c .before .before .before .if2 .left) (c .before .processor-at .result) (c .before .processor-at .ensures)
 
 pub read-spec : {M : Type 1} → statement M
 read-spec =

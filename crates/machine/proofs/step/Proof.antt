@@ -56,40 +56,40 @@ processor-at-requires c κs = search needs
 
 random-of-requires : tie.Need-random-of-requires
 random-of-requires c κs =
-    let a = c .before .before .before .before .before .before .before .before .before .before .before .before .args in
+    let a = c .before .before .before .before .before .before .before .before .before .before .before .args in
     let s : StepCall = record { processor = a .processor; cpu = a .cpu .now; memory = a .memory .now; random = a .random .now; string = a .string .now } in
-    random-length (viewOf (a .m)) s (sym (c .before .before .before .before .step-refusal .ensures s refl refl refl refl (sym (c .before .before .before .before .before .decode .ensures))) ∙ c .before .before .before .if2 .left)
+    random-length (viewOf (a .m)) s (sym (c .before .before .before .step-refusal .ensures s refl refl refl refl (sym (c .before .before .before .before .decode .ensures))) ∙ c .before .before .if2 .left)
 
 record-of-requires : tie.Need-record-of-requires
 record-of-requires c κs =
-    let a = c .before .before .before .before .before .before .before .before .before .before .before .before .before .args in
+    let a = c .before .before .before .before .before .before .before .before .before .before .before .before .args in
     let s : StepCall = record { processor = a .processor; cpu = a .cpu .now; memory = a .memory .now; random = a .random .now; string = a .string .now } in
-    cpu-length (viewOf (a .m)) s (sym (c .before .before .before .before .before .step-refusal .ensures s refl refl refl refl (sym (c .before .before .before .before .before .before .decode .ensures))) ∙ c .before .before .before .before .if2 .left)
+    cpu-length (viewOf (a .m)) s (sym (c .before .before .before .before .step-refusal .ensures s refl refl refl refl (sym (c .before .before .before .before .before .decode .ensures))) ∙ c .before .before .before .if2 .left)
 
 executed-requires : tie.Need-executed-requires
 executed-requires c κs =
-    let a = c .before .before .before .before .before .before .before .before .before .before .before .before .before .before .args in
+    let a = c .before .before .before .before .before .before .before .before .before .before .before .before .before .args in
     let s : StepCall = record { processor = a .processor; cpu = a .cpu .now; memory = a .memory .now; random = a .random .now; string = a .string .now } in
-    let accepted = sym (c .before .before .before .before .before .before .step-refusal .ensures s refl refl refl refl (sym (c .before .before .before .before .before .before .before .decode .ensures))) ∙ c .before .before .before .before .before .if2 .left in
+    let accepted = sym (c .before .before .before .before .before .step-refusal .ensures s refl refl refl refl (sym (c .before .before .before .before .before .before .decode .ensures))) ∙ c .before .before .before .before .if2 .left in
     λ what lock bytes q f r.
     subst (λ (l : List ℕ). handleAddress l bytes (f .handle) .linear + handleLength (f .size) ≤ length (a .memory .now)) (sym (c .record-of .ensures))
-    (handle-fits (viewOf (a .m)) s accepted what lock bytes f (sym (c .before .before .before .before .before .before .before .decode .ensures) ∙ q) r)
+    (handle-fits (viewOf (a .m)) s accepted what lock bytes f (sym (c .before .before .before .before .before .before .decode .ensures) ∙ q) r)
 
 done-step-requires : tie.Need-done-step-requires
 done-step-requires c κs = search needs
 
 returns-3 : tie.Need-returns-3
 returns-3 c =
-    let a = c .before .before .before .before .before .before .before .before .before .before .before .before .before .before .before .before .args in
+    let a = c .before .before .before .before .before .before .before .before .before .before .before .before .before .before .before .args in
     let s : StepCall = record { processor = a .processor; cpu = a .cpu .now; memory = a .memory .now; random = a .random .now; string = a .string .now } in
-    let v = sym (c .before .before .before .before .before .before .before .before .before .before .before .valid .ensures) ∙ not-false (c .before .before .before .before .before .before .before .before .before .before .before .valid .result) (c .before .before .before .before .before .before .before .before .before .before .if1 .left) in
-    let accepted = sym (c .before .before .before .before .before .before .before .before .step-refusal .ensures s refl refl refl refl (sym (c .before .before .before .before .before .before .before .before .before .decode .ensures))) ∙ c .before .before .before .before .before .before .before .if2 .left in
+    let v = sym (c .before .before .before .before .before .before .before .before .before .before .valid .ensures) ∙ not-false (c .before .before .before .before .before .before .before .before .before .before .valid .result) (c .before .before .before .before .before .before .before .before .before .if1 .left) in
+    let accepted = sym (c .before .before .before .before .before .before .before .step-refusal .ensures s refl refl refl refl (sym (c .before .before .before .before .before .before .before .before .decode .ensures))) ∙ c .before .before .before .before .before .before .if2 .left in
     let e = c .before .before .before .before .before .processor-at .result in
     c .done-step .ensures
     ∙ step-done (a .m) v s accepted e (c .before .before .before .before .before .processor-at .ensures) (executedOf (c .before .executed .result))
     (c .before .executed .ensures
-    ∙ executed-as s (e .key) (c .before .before .record-of .result) (randomData (c .before .before .before .random-of .result)) (c .before .before .before .before .before .before .before .before .before .decode .result)
-    (c .before .before .record-of .ensures) (c .before .before .before .random-of .ensures) (c .before .before .before .before .before .before .before .before .before .decode .ensures))
+    ∙ executed-as s (e .key) (c .before .before .record-of .result) (randomData (c .before .before .before .random-of .result)) (c .before .before .before .before .before .before .before .before .decode .result)
+    (c .before .before .record-of .ensures) (c .before .before .before .random-of .ensures) (c .before .before .before .before .before .before .before .before .decode .ensures))
 
 pub step-spec : {M : Type 1} → statement M
 step-spec =

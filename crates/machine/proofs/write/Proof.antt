@@ -54,13 +54,13 @@ done-requires c κs = search needs
 
 returns-3 : tie.Need-returns-3
 returns-3 c =
-    let a = c .before .before .before .before .before .before .before .before .before .before .before .before .args in
+    let a = c .before .before .before .before .before .before .before .before .before .before .before .args in
     let m = a .m in
-    let v = sym (c .before .before .before .before .before .before .before .before .before .before .before .valid .ensures) ∙ not-false (c .before .before .before .before .before .before .before .before .before .before .before .valid .result) (c .before .before .before .before .before .before .before .before .before .before .if1 .left) in
+    let v = sym (c .before .before .before .before .before .before .before .before .before .before .valid .ensures) ∙ not-false (c .before .before .before .before .before .before .before .before .before .before .valid .result) (c .before .before .before .before .before .before .before .before .before .if1 .left) in
     let x = copiedOf (c .before .before .before .before .write-register .result) in
     c .done .ensures
     ∙ ap (λ (n : Machine). doneWith (withPlatform (x .platform) n)) (c .before .with-processor .ensures)
-    ∙ write-done m v (record { processor = a .processor; cpl = a .cpl; address = a .address; value = a .value }) (sym (c .before .before .before .before .before .before .before .before .before .write-refusal .ensures) ∙ c .before .before .before .before .before .before .before .before .if2 .left) (c .before .before .before .before .before .processor-at .result) (c .before .before .before .before .before .processor-at .ensures)
+    ∙ write-done m v (record { processor = a .processor; cpl = a .cpl; address = a .address; value = a .value }) (sym (c .before .before .before .before .before .before .before .before .write-refusal .ensures) ∙ c .before .before .before .before .before .before .before .if2 .left) (c .before .before .before .before .before .processor-at .result) (c .before .before .before .before .before .processor-at .ensures)
     x (c .before .before .before .before .write-register .ensures)
 
 pub write-spec : {M : Type 1} → statement M

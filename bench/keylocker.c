@@ -1,0 +1,314 @@
+// Measures whole calls of the library for C against what their cryptography alone takes in the two cores of
+// keywrap_baseline.h and aes_baseline.h, after checking that all compute the same. The cores decode, check and
+// copy nothing, so a ratio holds all of a call against a part of it. A missed bar is printed and is no failure
+// of the program, since a busy machine can be the reason; a wrong result is one.
+#include "aes_baseline.h"
+#include "keylocker.h"
+#include "keywrap_baseline.h"
+#include "measure.h"
+
+#include <stdbool.h>
+#include <stdio.h>
+#include <stdlib.h>
+#include <string.h>
+
+enum { WIDE_BLOCKS = 8, HANDLES = 64, PROCESSORS = 16 };
+
+// ---- what is called
+
+enum op { ENCODE, ENCRYPT, DECRYPT, ENCRYPT_WIDE, DECRYPT_WIDE, LOAD, WRITE, READ, BAD_STRING, ILLEGAL, OPS };
+
+static size_t blocks_of(int op) { return op == ENCRYPT_WIDE || op == DECRYPT_WIDE ? WIDE_BLOCKS : 1; }
+static bool is_decryption(int op) { return op == DECRYPT || op == DECRYPT_WIDE; }
+static bool is_use(int op) { return ENCRYPT <= op && op <= DECRYPT_WIDE; }
+
+// Opcode and ModRM behind F3 0F 38, by size. Uses take XMM0 and [RAX]; encodes ECX, EAX; the load XMM1, XMM2.
+static const uint8_t strings[OPS][2][2] = {
+    [ENCODE] = {{0xfa, 0xc8}, {0xfb, 0xc8}},       [ENCRYPT] = {{0xdc, 0x00}, {0xde, 0x00}},
+    [DECRYPT] = {{0xdd, 0x00}, {0xdf, 0x00}},      [ENCRYPT_WIDE] = {{0xd8, 0x00}, {0xd8, 0x10}},
+    [DECRYPT_WIDE] = {{0xd8, 0x08}, {0xd8, 0x18}}, [LOAD] = {{0xdc, 0xca}, {0xdc, 0xca}},
+    [BAD_STRING] = {{0xd8, 0x20}, {0xd8, 0x20}},   [ILLEGAL] = {{0xdc, 0x00}, {0xde, 0x00}},
+};
+
+static uint8_t machine[KEYLOCKER_MACHINE_SIZE];
+static uint8_t cpu[KEYLOCKER_CPU_SIZE];
+static uint8_t memory[HANDLES * HANDLE_BYTES]; // a handle every 64 bytes, of the size that is measured
+static uint8_t keys[HANDLES][KEY_BYTES];       // what the handles hold
+static uint8_t random_data[KEYLOCKER_RANDOM_SIZE];
+static uint8_t integrity[16], encryption[32]; // the IWKey of every processor
+static const uint8_t aad[2][16] = {{0}, {[3] = 1}};
+
+static void put64(uint8_t *p, uint64_t x)
+{
+    for (int i = 0; i < 8; i++)
+        p[i] = (uint8_t)(x >> 8 * i);
+}
+
+static uint8_t *reg(int n) { return cpu + KEYLOCKER_CPU_REGISTERS + 8 * n; }
+
+static void require(bool holds, const char *what)
+{
+    if (holds)
+        return;
+    fprintf(stderr, "bench: %s\n", what);
+    exit(1);
+}
+
+static uint32_t step(int op, uint8_t size, uint8_t processor)
+{
+    uint8_t string[5] = {0xf3, 0x0f, 0x38, strings[op][size][0], strings[op][size][1]};
+    return keylocker_step(machine, sizeof machine, processor, cpu, sizeof cpu, memory, sizeof memory, random_data,
+                          sizeof random_data, string, sizeof string);
+}
+
+// A machine with its IWKey on every processor.
+static void power_on(uint8_t count)
+{
+    uint32_t answer = keylocker_power_on(machine, sizeof machine, count, KEYLOCKER_FEATURE_ALL);
+    for (uint8_t i = 0; i < count; i++) {
+        memset(cpu, 0, sizeof cpu);
+        cpu[KEYLOCKER_CPU_CONTROL] = KEYLOCKER_CONTROL_CR4_KL | KEYLOCKER_CONTROL_CR4_OSFXSR;
+        memcpy(cpu, integrity, 16);
+        memcpy(cpu + 16, encryption + 16, 16); // SRC1 is the high half
+        memcpy(cpu + 32, encryption, 16);
+        answer |= step(LOAD, 0, i);
+    }
+    require(answer == KEYLOCKER_DONE, "power-on or a load was refused");
+}
+
+static void make_handles(uint8_t size)
+{
+    for (int i = 0; i < HANDLES; i++)
+        bytes_wrap(size, integrity, encryption, aad[size], keys[i], memory + HANDLE_BYTES * i);
+}
+
+// ---- the cryptography of an instruction
+
+struct core {
+    wrap_fn *wrap;
+    unwrap_fn *unwrap;
+    void (*key_expansion)(uint8_t size, const uint8_t key[32], uint32_t w[60]);
+    void (*inv_key_expansion)(uint8_t size, uint32_t w[60]); // or none
+    void (*encrypt)(uint8_t size, const uint32_t w[60], uint8_t *data, size_t len);
+    void (*decrypt)(uint8_t size, const uint32_t w[60], uint8_t *data, size_t len);
+};
+
+static const struct core cores[CORES] = {
+    [BYTES] = {bytes_wrap, bytes_unwrap, bytes_key_expansion_grouped, NULL, bytes_encrypt_blocks,
+               bytes_decrypt_blocks},
+    [TTABLES] = {ttables_wrap, ttables_unwrap, ttables_key_expansion, ttables_inv_key_expansion,
+                 ttables_encrypt_blocks, ttables_decrypt_blocks},
+};
+
+static void core_use(const struct core *core, int op, uint8_t size, const uint8_t handle[64], uint8_t *data)
+{
+    uint8_t key[KEY_BYTES];
+    uint32_t w[MAX_WORDS];
+    if (!core->unwrap(size, integrity, encryption, handle, key))
+        return;
+    core->key_expansion(size, key, w);
+    if (!is_decryption(op)) {
+        core->encrypt(size, w, data, blocks_of(op) * BLOCK_BYTES);
+        return;
+    }
+    if (core->inv_key_expansion)
+        core->inv_key_expansion(size, w);
+    core->decrypt(size, w, data, blocks_of(op) * BLOCK_BYTES);
+}
+
+// ---- the check
+
+static void check_use(int op, uint8_t size, int handle)
+{
+    uint8_t data[WIDE_BLOCKS * BLOCK_BYTES], expected[sizeof data];
+    size_t len = blocks_of(op) * BLOCK_BYTES;
+    fill_random(data, sizeof data);
+    memcpy(cpu, data, sizeof data);
+    put64(reg(0), (uint64_t)(HANDLE_BYTES * handle));
+    require(step(op, size, 0) == KEYLOCKER_DONE, "a use was refused");
+    for (int i = BYTES; i < CORES; i++) {
+        memcpy(expected, data, sizeof data);
+        core_use(&cores[i], op, size, memory + HANDLE_BYTES * handle, expected);
+        require(memcmp(expected, data, len) != 0, "a core's use left the blocks");
+        require(memcmp(cpu, expected, sizeof data) == 0, "library and core differ in a use");
+    }
+}
+
+static void check_encode(uint8_t size, int key)
+{
+    uint8_t handle[HANDLE_BYTES];
+    size_t len = size ? KEYLOCKER_HANDLE_256_SIZE : KEYLOCKER_HANDLE_128_SIZE;
+    memcpy(cpu, keys[key], KEY_BYTES);
+    put64(reg(0), 0);
+    require(step(ENCODE, size, 0) == KEYLOCKER_DONE, "an encode was refused");
+    for (int i = BYTES; i < CORES; i++) {
+        cores[i].wrap(size, integrity, encryption, aad[size], keys[key], handle);
+        require(memcmp(cpu, handle, len) == 0, "library and core differ in an encode");
+    }
+}
+
+static void check_all(void)
+{
+    for (uint8_t size = 0; size < 2; size++) {
+        make_handles(size);
+        for (int i = 0; i < HANDLES; i++) {
+            check_encode(size, i);
+            for (int op = ENCRYPT; op <= DECRYPT_WIDE; op++)
+                check_use(op, size, i);
+        }
+    }
+    puts("The library's ten forms of encode and use agree with both cores' cryptography on random keys and blocks.\n");
+}
+
+// ---- the measurement
+
+// The next key to encode, or handle to use: on the same bits every time a processor would learn what branches do.
+static void next_operand(int op, size_t i)
+{
+    if (op == ENCODE)
+        memcpy(cpu, keys[i % HANDLES], KEY_BYTES);
+    else
+        put64(reg(0), HANDLE_BYTES * (i % HANDLES));
+}
+
+static uint8_t processor_of(const struct row *row, size_t i) { return row->count == 1 ? 0 : (uint8_t)(i % 2); }
+
+// Each use goes on the blocks that the last one left.
+static uint32_t repeat_steps(const struct row *row, size_t reps)
+{
+    uint32_t answers = 0;
+    put64(reg(0), 0);
+    for (size_t i = 0; i < reps; i++) {
+        if (row->op == ENCODE || is_use(row->op) || row->op == ILLEGAL)
+            next_operand(row->op, i);
+        answers |= step(row->op, row->size, processor_of(row, i));
+    }
+    return answers;
+}
+
+static uint32_t repeat_registers(const struct row *row, size_t reps)
+{
+    uint32_t answers = 0;
+    uint64_t value = 0;
+    for (size_t i = 0; i < reps; i++)
+        answers |= row->op == READ ? keylocker_read(machine, sizeof machine, processor_of(row, i), 0,
+                                                    KEYLOCKER_COPY_STATUS, &value)
+                                   : keylocker_write(machine, sizeof machine, processor_of(row, i), 0,
+                                                     KEYLOCKER_COPY_PLATFORM_TO_LOCAL, 1);
+    return answers;
+}
+
+static void repeat_core(const struct core *core, const struct row *row, size_t reps)
+{
+    static uint8_t data[WIDE_BLOCKS * BLOCK_BYTES];
+    uint8_t handle[HANDLE_BYTES];
+    for (size_t i = 0; i < reps; i++) {
+        if (row->op == ENCODE)
+            core->wrap(row->size, integrity, encryption, aad[row->size], keys[i % HANDLES], handle);
+        else
+            core_use(core, row->op, row->size, memory + HANDLE_BYTES * (i % HANDLES), data);
+    }
+}
+
+// What a row needs, outside the time that is taken.
+static void prepare_machine(const struct row *row)
+{
+    power_on(row->count ? row->count : PROCESSORS);
+    make_handles(row->size);
+    if (row->op == ILLEGAL) // a reserved bit
+        for (int i = 0; i < HANDLES; i++)
+            memory[HANDLE_BYTES * i + 4] = 1;
+    if (row->op == WRITE)
+        require(keylocker_write(machine, sizeof machine, 0, 0, KEYLOCKER_COPY_LOCAL_TO_PLATFORM, 1) == KEYLOCKER_DONE,
+                "no backup");
+    fill_random(cpu, 256);
+}
+
+static double slice_ns(int core, const struct row *row, size_t reps)
+{
+    uint32_t answers = row->op == BAD_STRING ? KEYLOCKER_BAD_BYTE : KEYLOCKER_DONE, got = answers;
+    prepare_machine(row);
+    double start = now_ns();
+    if (core != PROVED)
+        repeat_core(&cores[core], row, reps);
+    else if (row->op == WRITE || row->op == READ)
+        got = repeat_registers(row, reps);
+    else
+        got = repeat_steps(row, reps);
+    double end = now_ns();
+    require(got == answers, "a measured call had another answer than is measured");
+    return end - start;
+}
+
+// ---- the figures
+
+static void print_label(const struct row *row)
+{
+    static const char *const names[OPS] = {
+        [ENCODE] = "ENCODEKEY%d",          [ENCRYPT] = "AESENC%dKL",
+        [DECRYPT] = "AESDEC%dKL",          [ENCRYPT_WIDE] = "AESENCWIDE%dKL",
+        [DECRYPT_WIDE] = "AESDECWIDE%dKL", [LOAD] = "LOADIWKEY",
+        [WRITE] = "write 0xD92",           [READ] = "read 0x990",
+        [BAD_STRING] = "a string refused", [ILLEGAL] = "AESENC%dKL, illegal handle",
+    };
+    char label[64], form[64];
+    snprintf(form, sizeof form, "%s%s", names[row->op], row->count == 1 ? ", 1 processor" : "");
+    snprintf(label, sizeof label, form, key_bits(row->size));
+    printf("%-31s", label);
+}
+
+static const struct bar bars[] = {{"encode, use", 0, BYTES, 0.70}};
+static const struct bar goal = {"encode, use", 0, TTABLES, 1.00};
+
+// All of a use but its cryptography is what one takes whose handle is illegal: it is read, and not unwrapped.
+static void print_rest(const struct row *illegal, const struct row *use)
+{
+    double most = 0.30 * use->ns[PROVED] < 400 ? 0.30 * use->ns[PROVED] : 400;
+    double is = illegal->ns[PROVED];
+    printf("%-6s  not cryptography  at most %.0f ns, the less of 400 ns and 30%% of an AESENC128KL: %.0f ns, %.0f%%\n",
+           is <= most ? "pass" : "MISSED", most, is, 100 * is / use->ns[PROVED]);
+}
+
+int main(void)
+{
+    struct row rows[] = {
+        {.op = ENCODE, .size = 0},       {.op = ENCODE, .size = 1},       {.op = ENCRYPT, .size = 0},
+        {.op = ENCRYPT, .size = 1},      {.op = DECRYPT, .size = 0},      {.op = DECRYPT, .size = 1},
+        {.op = ENCRYPT_WIDE, .size = 0}, {.op = ENCRYPT_WIDE, .size = 1}, {.op = DECRYPT_WIDE, .size = 0},
+        {.op = DECRYPT_WIDE, .size = 1},
+    };
+    struct row others[] = {
+        {.op = ILLEGAL, .alone = true},    {.op = ILLEGAL, .alone = true, .count = 1},
+        {.op = LOAD, .alone = true},       {.op = WRITE, .alone = true},
+        {.op = READ, .alone = true},       {.op = BAD_STRING, .alone = true},
+        {.op = BAD_STRING, .alone = true, .count = 1},
+    };
+    size_t count = sizeof rows / sizeof *rows, other = sizeof others / sizeof *others;
+
+    sbox_init();
+    ttables_init();
+    fill_random(integrity, sizeof integrity);
+    fill_random(encryption, sizeof encryption);
+    fill_random((uint8_t *)keys, sizeof keys);
+    fill_random(random_data, sizeof random_data);
+    power_on(PROCESSORS);
+    check_all();
+    measure_all(rows, count, slice_ns);
+    measure_all(others, other, slice_ns);
+    print_head("ns per call, of 16 processors");
+    for (size_t i = 0; i < count; i++) {
+        print_label(&rows[i]);
+        print_figures(&rows[i]);
+    }
+    for (size_t i = 0; i < other; i++) {
+        print_label(&others[i]);
+        printf("%11.1f\n", others[i].ns[PROVED]);
+    }
+    puts("");
+    print_label(print_bar(&bars[0], rows, count, "pass", "MISSED"));
+    puts("");
+    print_label(print_bar(&goal, rows, count, "goal met", "goal not met"));
+    puts("");
+    print_rest(&others[0], &rows[2]);
+    return 0;
+}
