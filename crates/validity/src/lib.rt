@@ -55,13 +55,12 @@ fn valid_processor(below: bool, e: Processor) -> bool
     zero_key(k) & (e.copy_status == 0)
 }
 
-fn valid_processors(m: Machine) -> bool
-    ensures { λ r. ⌜ r ≡ model.validProcessors (m .count) 0 (m .processors) ⌝ }
+fn valid_processors(count: usize, l: [Processor; 16]) -> bool
+    ensures { λ r. ⌜ r ≡ model.validProcessors count 0 l ⌝ }
 {
-    let count = m.count as usize;
     let mut z = true;
     for i in 0..16usize {
-        let e = m.processors[i];
+        let e = l[i];
         z = z & valid_processor(i < count, e);
     }
     z
@@ -95,10 +94,11 @@ fn valid_platform(f: Platform) -> bool
 pub fn valid(m: Machine) -> bool
     ensures { λ r. ⌜ r ≡ model.valid m ⌝ }
 {
+    let processors = m.processors;
     let platform = m.platform;
     (1 <= m.count)
         & (m.count <= 16)
         & (m.features < 64)
-        & valid_processors(m)
+        & valid_processors(m.count as usize, processors)
         & valid_platform(platform)
 }

@@ -1,10 +1,10 @@
 -- The processors passed and those left are valid together exactly if all are.
 -- Assumes nothing.
-use mathlib.Core.Path.{_≡_, _∙_, refl, sym, ap}
+use mathlib.Core.Path.{_≡_, _∙_, refl, ap}
 use mathlib.Core.Bool.{Bool, _&&_}
 use Prim.Native.Nat.{_+_, _-_, _≤_}
 use native.Mathlib.Omega.{arith}
-use lib.ListN.{length, drop, length-map}
+use lib.ListN.{length, drop}
 use borrow.Author.Needs.{needs}
 use Rattle.model.specs.Validity.{validProcessors}
 use Rattle.validity.proofs.Loops.{valid-next, valid-last}
@@ -12,25 +12,19 @@ use Rattle.validity.proofs.valid_processors.Statement.{statement}
 use Rattle.validity.proofs.valid_processors.Tie as tie
 
 abbrev Inv-loop : tie.InvT-loop
-Inv-loop m count z₀ i₀ z i =
-    (i ≤ 16)
-    × (length (m .processors) ≡ 16)
-    × (z && validProcessors (m .count) i (drop i (m .processors)) ≡ validProcessors (m .count) 0 (m .processors))
+Inv-loop count l z₀ i₀ z i = (i ≤ 16) × (length l ≡ 16) × (z && validProcessors count i (drop i l) ≡ validProcessors count 0 l)
 
 abbrev μ-loop : tie.MeasureT-loop
-μ-loop m count z₀ i₀ z i = 16 - i
-
-cast-count : tie.Need-cast-count Inv-loop μ-loop
-cast-count c = search needs
+μ-loop count l z₀ i₀ z i = 16 - i
 
 loop-holds : tie.Need-loop-holds Inv-loop μ-loop
-loop-holds c = (search needs, sym (length-map (c .args .t1 .processors) _) ∙ c .good .0 .1 .1 .1 .1 .0 .1 .0 .1, refl)
+loop-holds c = (search needs, search needs, refl)
 
 mul-e : tie.Need-mul-e Inv-loop μ-loop
 mul-e c = omega arith
 
-element-copy-out-e : tie.Need-element-copy-out-e Inv-loop μ-loop
-element-copy-out-e c = omega arith
+array-copy-out-e : tie.Need-array-copy-out-e Inv-loop μ-loop
+array-copy-out-e c = omega arith
 
 valid-processor-requires : tie.Need-valid-processor-requires Inv-loop μ-loop
 valid-processor-requires c κs = search needs
@@ -47,8 +41,8 @@ loop-again c =
     let a = c .before .before .before .before .args in (
       omega arith,
       p .inv .1,
-      ap (λ (b : Bool). p .z && b && validProcessors (a .t1 .count) (p .i + 1) (drop (p .i + 1) (a .t1 .processors))) (c .valid-processor .ensures)
-          ∙ valid-next (a .t1 .count) (a .t1 .processors) (p .z) (p .i) (omega arith)
+      ap (λ (b : Bool). p .z && b && validProcessors (a .count) (p .i + 1) (drop (p .i + 1) (a .t2))) (c .valid-processor .ensures)
+          ∙ valid-next (a .count) (a .t2) (p .z) (p .i) (omega arith)
           ∙ p .inv .2,
     )
 
@@ -56,7 +50,7 @@ returns : tie.Need-returns Inv-loop μ-loop
 returns c =
     let p = c .before .loop in
     let a = c .before .before .args in
-    valid-last (a .t1 .count) (a .t1 .processors) (p .z) (p .i) (omega arith) ∙ p .inv .2
+    valid-last (a .count) (a .t2) (p .z) (p .i) (omega arith) ∙ p .inv .2
 
 pub valid-processors-spec : {M : Type 1} → statement M
 valid-processors-spec =
@@ -64,10 +58,9 @@ valid-processors-spec =
     (tie.spec
     Inv-loop
     μ-loop
-    cast-count
     loop-holds
     mul-e
-    element-copy-out-e
+    array-copy-out-e
     valid-processor-requires
     add-i
     loop-less
