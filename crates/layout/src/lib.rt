@@ -174,12 +174,12 @@ fn put_entry(s: &mut [u8], at: usize, e: Processor)
     s[at + 50] = e.copy_status;
 }
 
-fn put_entries(s: &mut [u8], at: usize, m: Machine)
+fn put_entries(s: &mut [u8], at: usize, l: [Processor; 16])
     requires { ⌜ at + processorLimit * model.entrySize ≤ length (now s) ⌝ }
-    ensures { λ _. ⌜ (now (s .exit) ≡ sets (now (s .entry)) at (model.entriesBytes (m .processors))) × (length (model.entriesBytes (m .processors)) ≡ processorLimit * model.entrySize) ⌝ }
+    ensures { λ _. ⌜ (now (s .exit) ≡ sets (now (s .entry)) at (model.entriesBytes l)) × (length (model.entriesBytes l) ≡ processorLimit * model.entrySize) ⌝ }
 {
     for i in 0..16usize {
-        let e = m.processors[i];
+        let e = l[i];
         put_entry(s, at + i * 51, e);
     }
 }
@@ -211,9 +211,10 @@ pub fn write_machine(s: &mut [u8], m: Machine)
     requires { ⌜ length (now s) ≡ model.machineSize ⌝ }
     ensures { λ _. ⌜ now (s .exit) ≡ model.machineBytes m ⌝ }
 {
+    let processors = m.processors;
     let platform = m.platform;
     s[0] = m.count;
     s[1] = m.features;
-    put_entries(s, 2, m);
+    put_entries(s, 2, processors);
     put_platform(s, 818, platform);
 }

@@ -5,7 +5,7 @@ use mathlib.Core.List.{List}
 use Prim.Native.Nat.{ℕ, _*_, _-_, _≤_}
 use native.Mathlib.Omega.{arith}
 use borrow.Author.Needs.{needs}
-use lib.ListN.{length, take, length-map}
+use lib.ListN.{length, take}
 use lib.Seq.{sets, take-all}
 use Rattle.model.specs.Records.{noProcessor}
 use Rattle.model.specs.Layout.{entrySize, entriesBytes}
@@ -15,24 +15,24 @@ use Rattle.layout.proofs.put_entries.Statement.{statement}
 use Rattle.layout.proofs.put_entries.Tie as tie
 
 abbrev Inv-loop : tie.InvT-loop
-Inv-loop s₀ at m i₀ s i =
+Inv-loop s₀ at l i₀ s i =
     (i ≤ 16)
-    × (length (m .processors) ≡ 16)
+    × (length l ≡ 16)
     × (length s ≡ length s₀)
-    × (length (entriesBytes (take i (m .processors))) ≡ i * entrySize)
-    × (s ≡ sets s₀ at (entriesBytes (take i (m .processors))))
+    × (length (entriesBytes (take i l)) ≡ i * entrySize)
+    × (s ≡ sets s₀ at (entriesBytes (take i l)))
 
 abbrev μ-loop : tie.MeasureT-loop
-μ-loop s₀ at m i₀ s i = 16 - i
+μ-loop s₀ at l i₀ s i = 16 - i
 
 loop-holds : tie.Need-loop-holds Inv-loop μ-loop
-loop-holds c = (search needs, sym (length-map (c .before .args .t3 .processors) _) ∙ c .before .good .1 .1 .0 .1 .1 .1 .1 .0 .1 .0 .1, refl, refl, refl)
+loop-holds c = (search needs, search needs, refl, refl, refl)
 
 mul-e : tie.Need-mul-e Inv-loop μ-loop
 mul-e c = omega arith
 
-element-copy-out-e : tie.Need-element-copy-out-e Inv-loop μ-loop
-element-copy-out-e c = omega arith
+array-copy-out-e : tie.Need-array-copy-out-e Inv-loop μ-loop
+array-copy-out-e c = omega arith
 
 mul-put-entry : tie.Need-mul-put-entry Inv-loop μ-loop
 mul-put-entry c = omega arith
@@ -57,8 +57,8 @@ loop-again c =
       omega arith,
       l .inv .1,
       e .kept .0 ∙ l .inv .2,
-      entries-length (args .t3 .processors) (l .i) noProcessor (omega arith) (l .inv .3) (e .ensures .1),
-      entries-written (args .t3 .processors) (l .i) noProcessor (omega arith) (l .inv .3) (args .s .now) (args .at) (l .inv .4) (e .ensures .0),
+      entries-length (args .t3) (l .i) noProcessor (omega arith) (l .inv .3) (e .ensures .1),
+      entries-written (args .t3) (l .i) noProcessor (omega arith) (l .inv .3) (args .s .now) (args .at) (l .inv .4) (e .ensures .0),
     )
 
 same-length : tie.Need-same-length Inv-loop μ-loop
@@ -68,7 +68,7 @@ returns : tie.Need-returns Inv-loop μ-loop
 returns c =
     let l = c .before .loop in
     let args = c .before .before .before .args in
-    let all = take-all (l .i) (args .t3 .processors) (omega arith) in
+    let all = take-all (l .i) (args .t3) (omega arith) in
     let end : l .i ≡ 16 = omega arith in (
       l .inv .4 ∙ ap (λ (w : List Processor). sets (args .s .now) (args .at) (entriesBytes w)) all,
       ap (λ (w : List Processor). length (entriesBytes w)) (sym all) ∙ l .inv .3 ∙ ap (λ (n : ℕ). n * entrySize) end,
@@ -82,7 +82,7 @@ put-entries-spec =
     μ-loop
     loop-holds
     mul-e
-    element-copy-out-e
+    array-copy-out-e
     mul-put-entry
     add-put-entry
     put-entry-requires

@@ -23,10 +23,10 @@ same-length c = c .before .before .put-platform .kept .0 ∙ c .before .before .
 
 returns : tie.Need-returns
 returns c =
-    let args = c .before .before .before .before .before .before .before .before .before .before .args in
+    let args = c .before .before .before .before .before .before .before .before .before .before .before .args in
     let e = c .before .before .before .before .before .before .put-entries .ensures in
     let f = c .before .before .put-platform .ensures in
-    machine-written (args .s .now) (args .m) (c .before .before .before .before .before .before .before .before .before .before .pre) (e .1) (f .1) (e .0) (f .0)
+    machine-written (args .s .now) (args .m) (c .before .before .before .before .before .before .before .before .before .before .before .pre) (e .1) (f .1) (e .0) (f .0)
 
 pub write-machine-spec : {M : Type 1} → statement M
 write-machine-spec =
