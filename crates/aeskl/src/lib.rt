@@ -99,13 +99,7 @@ fn cipher_block(t: &[u8; 256], direction: Direction, size: KeySize, key: Key, b:
     }
 }
 
-fn cipher_blocks(
-    t: &[u8; 256],
-    direction: Direction,
-    size: KeySize,
-    key: Key,
-    bytes: &mut [u8],
-)
+fn cipher_blocks(t: &[u8; 256], direction: Direction, size: KeySize, key: Key, bytes: &mut [u8])
     requires { ⌜ TableOf sbox (now t) ⌝ }
     ensures { λ _. ⌜ now (bytes .exit) ≡ mapBlocks (model.aes direction size (keyBytes size key)) (length (now (bytes .entry)) / 16) (now (bytes .entry)) ⌝ }
 {

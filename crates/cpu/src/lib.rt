@@ -15,6 +15,19 @@ use aes::word::put_word;
 use aes::word::word_at;
 use isa::Operand;
 
+// Where the fields of the record stand.
+const REGISTERS: usize = 16 * 16;
+
+const RIP: usize = REGISTERS + 16 * 8;
+
+const RFLAGS: usize = RIP + 8;
+
+const CPL: usize = RFLAGS + 8;
+
+const CONTROL: usize = CPL + 1;
+
+const ZEROS: usize = CONTROL + 1;
+
 // ---- numbers of eight bytes
 
 fn quad_at(s: &[u8], at: usize) -> u64
@@ -56,14 +69,14 @@ pub fn register(cpu: &[u8], n: u8) -> u64
     requires { ⌜ length (now cpu) ≡ model.cpuSize ⌝ }
     ensures { λ r. ⌜ r ≡ model.register n (now (cpu .entry)) ⌝ }
 {
-    quad_at(cpu, 256 + 8 * (n % 16) as usize)
+    quad_at(cpu, REGISTERS + 8 * (n % 16) as usize)
 }
 
 pub fn put_register(cpu: &mut [u8], n: u8, x: u64)
     requires { ⌜ length (now cpu) ≡ model.cpuSize ⌝ }
     ensures { λ _. ⌜ now (cpu .exit) ≡ model.withRegister n x (now (cpu .entry)) ⌝ }
 {
-    put_quad(cpu, 256 + 8 * (n % 16) as usize, x);
+    put_quad(cpu, REGISTERS + 8 * (n % 16) as usize, x);
 }
 
 // The register that an operand names.
@@ -83,7 +96,7 @@ pub fn registers(cpu: &[u8]) -> [u64; 16]
 {
     let mut r = [0u64; 16];
     for i in 0..16usize {
-        let x = quad_at(cpu, 256 + 8 * i);
+        let x = quad_at(cpu, REGISTERS + 8 * i);
         r[i] = x;
     }
     r
@@ -93,14 +106,14 @@ pub fn rip(cpu: &[u8]) -> u64
     requires { ⌜ length (now cpu) ≡ model.cpuSize ⌝ }
     ensures { λ r. ⌜ r ≡ model.rip (now (cpu .entry)) ⌝ }
 {
-    quad_at(cpu, 384)
+    quad_at(cpu, RIP)
 }
 
 pub fn put_rip(cpu: &mut [u8], x: u64)
     requires { ⌜ length (now cpu) ≡ model.cpuSize ⌝ }
     ensures { λ _. ⌜ now (cpu .exit) ≡ model.withRip x (now (cpu .entry)) ⌝ }
 {
-    put_quad(cpu, 384, x);
+    put_quad(cpu, RIP, x);
 }
 
 // OF, SF and ZF cleared.
@@ -134,8 +147,8 @@ pub fn put_zf(cpu: &mut [u8], z: u8)
     requires { ⌜ z < 2 ⌝ }
     ensures { λ _. ⌜ now (cpu .exit) ≡ model.withZf z (now (cpu .entry)) ⌝ }
 {
-    let x = quad_at(cpu, 392);
-    put_quad(cpu, 392, flags(z, x));
+    let x = quad_at(cpu, RFLAGS);
+    put_quad(cpu, RFLAGS, flags(z, x));
 }
 
 // ---- CPL, control bits and the zero fields
@@ -144,22 +157,23 @@ pub fn cpl(cpu: &[u8]) -> u8
     requires { ⌜ length (now cpu) ≡ model.cpuSize ⌝ }
     ensures { λ r. ⌜ r ≡ model.cpl (now (cpu .entry)) ⌝ }
 {
-    cpu[400]
+    cpu[CPL]
 }
 
 pub fn control(cpu: &[u8]) -> u8
     requires { ⌜ length (now cpu) ≡ model.cpuSize ⌝ }
     ensures { λ r. ⌜ r ≡ model.control (now (cpu .entry)) ⌝ }
 {
-    cpu[401]
+    cpu[CONTROL]
 }
 
 pub fn zero_field_set(cpu: &[u8]) -> bool
     requires { ⌜ length (now cpu) ≡ model.cpuSize ⌝ }
     ensures { λ r. ⌜ r ≡ model.zeroFieldSet (now (cpu .entry)) ⌝ }
 {
-    (cpu[401] >= 16)
-        | !((cpu[402] == 0)
-            & ((cpu[403] == 0)
-                & ((cpu[404] == 0) & ((cpu[405] == 0) & ((cpu[406] == 0) & (cpu[407] == 0))))))
+    (cpu[CONTROL] >= 16)
+        | !((cpu[ZEROS] == 0)
+            & ((cpu[ZEROS + 1] == 0)
+                & ((cpu[ZEROS + 2] == 0)
+                    & ((cpu[ZEROS + 3] == 0) & ((cpu[ZEROS + 4] == 0) & (cpu[ZEROS + 5] == 0))))))
 }

@@ -11,6 +11,8 @@ use lent::step_through;
 use machine::Answer;
 use machine::Outcome;
 
+const MACHINE_SIZE: usize = 924;
+
 fn finish(block: &mut [u8], o: Outcome) -> u32
     requires { ⌜ length (now block) ≡ machineSize ⌝ }
     ensures { λ r. ⌜ called r (now (block .exit)) ≡ finished (now (block .entry)) o ⌝ }
@@ -30,7 +32,7 @@ fn finish(block: &mut [u8], o: Outcome) -> u32
 pub extern "C" fn keylocker_power_on(machine: &mut [u8], count: u8, features: u8) -> u32
     ensures { λ r. ⌜ called r (now (machine .exit)) ≡ calledOf (powerOnLent (now (machine .entry)) (record { count = count; features = features })) ⌝ }
 {
-    if machine.len() != 924 {
+    if machine.len() != MACHINE_SIZE {
         return 1;
     }
     finish(machine, machine::power_on(count, features))
@@ -40,7 +42,7 @@ pub extern "C" fn keylocker_power_on(machine: &mut [u8], count: u8, features: u8
 pub extern "C" fn keylocker_settle(machine: &mut [u8], code: u8) -> u32
     ensures { λ r. ⌜ called r (now (machine .exit)) ≡ calledOf (callLent (now (machine .entry)) (settle (record { code = code }))) ⌝ }
 {
-    if machine.len() != 924 {
+    if machine.len() != MACHINE_SIZE {
         return 1;
     }
     let m = read_machine(machine);
@@ -51,7 +53,7 @@ pub extern "C" fn keylocker_settle(machine: &mut [u8], code: u8) -> u32
 pub extern "C" fn keylocker_sleep(machine: &mut [u8], code: u8) -> u32
     ensures { λ r. ⌜ called r (now (machine .exit)) ≡ calledOf (callLent (now (machine .entry)) (sleep (record { code = code }))) ⌝ }
 {
-    if machine.len() != 924 {
+    if machine.len() != MACHINE_SIZE {
         return 1;
     }
     let m = read_machine(machine);
@@ -62,7 +64,7 @@ pub extern "C" fn keylocker_sleep(machine: &mut [u8], code: u8) -> u32
 pub extern "C" fn keylocker_reset(machine: &mut [u8]) -> u32
     ensures { λ r. ⌜ called r (now (machine .exit)) ≡ calledOf (callLent (now (machine .entry)) reset) ⌝ }
 {
-    if machine.len() != 924 {
+    if machine.len() != MACHINE_SIZE {
         return 1;
     }
     let m = read_machine(machine);
@@ -82,7 +84,7 @@ pub extern "C" fn keylocker_read(
 ) -> u32
     ensures { λ r. ⌜ readCalled r (now (value .exit)) ≡ readCalledOf (now (value .entry)) (callLent (now (machine .entry)) (read (record { processor = processor; cpl = cpl; address = address }))) ⌝ }
 {
-    if machine.len() != 924 {
+    if machine.len() != MACHINE_SIZE {
         return 1;
     }
     let m = read_machine(machine);
@@ -107,7 +109,7 @@ pub extern "C" fn keylocker_write(
 ) -> u32
     ensures { λ r. ⌜ called r (now (machine .exit)) ≡ calledOf (callLent (now (machine .entry)) (write (record { processor = processor; cpl = cpl; address = address; value = value }))) ⌝ }
 {
-    if machine.len() != 924 {
+    if machine.len() != MACHINE_SIZE {
         return 1;
     }
     let m = read_machine(machine);
@@ -127,7 +129,7 @@ pub extern "C" fn keylocker_step(
 ) -> u32
     ensures { λ r. ⌜ stepCalled r (now (machine .exit)) (now (cpu .exit)) ≡ stepCalledOf (callLent (now (machine .entry)) (step (record { processor = processor; cpu = now (cpu .entry); memory = now (memory .entry); random = now (random .entry); string = now (string .entry) }))) ⌝ }
 {
-    if machine.len() != 924 {
+    if machine.len() != MACHINE_SIZE {
         return 1;
     }
     let m = read_machine(machine);

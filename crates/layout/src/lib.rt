@@ -1,7 +1,7 @@
 // The scope, "Records": "For C it is lent as 924 bytes". A call reads and writes them all, so bytes go in runs of fixed length, which are
 // compiled to wide moves.
 ghost use mathlib.Core.Path.{_≡_};
-ghost use Prim.Native.Nat.{_+_, _*_, _≤_};
+ghost use Prim.Native.Nat.{_+_, _*_, _≤_, _<_};
 ghost use lib.ListN.{length, drop};
 ghost use lib.Seq.{sets};
 ghost use Rattle.model.specs.Numbers.{part};
@@ -12,6 +12,31 @@ use model::Machine;
 use model::Platform;
 use model::Processor;
 use model::Slot;
+
+// Sizes are sums of their parts, and a place is counted from the start of what holds it.
+const INTEGRITY_SIZE: usize = 16;
+
+const SOURCE: usize = INTEGRITY_SIZE + 32;
+
+const NO_BACKUP: usize = SOURCE + 1;
+
+const KEY_SIZE: usize = NO_BACKUP + 1;
+
+const ENTRY_SIZE: usize = KEY_SIZE + 1;
+
+const SLOT_SIZE: usize = 1 + KEY_SIZE;
+
+const PENDING: usize = 2 * SLOT_SIZE;
+
+const VALID: usize = PENDING + 1;
+
+const ERROR: usize = VALID + 1;
+
+const CONSUMED: usize = ERROR + 1;
+
+const ENTRIES: usize = 2;
+
+const PLATFORM: usize = ENTRIES + 16 * ENTRY_SIZE;
 
 // ---- reading
 
@@ -42,12 +67,12 @@ fn key_at(s: &[u8], at: usize) -> IwKey
     ensures { λ r. ⌜ r ≡ model.keyAt (drop at (now (s .entry))) ⌝ }
 {
     let integrity = bytes_16(s, at);
-    let encryption = bytes_32(s, at + 16);
+    let encryption = bytes_32(s, at + INTEGRITY_SIZE);
     IwKey {
         integrity,
         encryption,
-        source: s[at + 48],
-        no_backup: s[at + 49],
+        source: s[at + SOURCE],
+        no_backup: s[at + NO_BACKUP],
     }
 }
 
@@ -59,8 +84,16 @@ fn entry_at(s: &[u8], at: usize) -> Processor
     let key = key_at(s, at);
     Processor {
         key,
-        copy_status: s[at + 50],
+        copy_status: s[at + KEY_SIZE],
     }
+}
+
+fn entry_number(s: &[u8], i: usize) -> Processor
+    requires { ⌜ length (now s) ≡ model.machineSize ⌝ }
+    requires { ⌜ i < processorLimit ⌝ }
+    ensures { λ r. ⌜ r ≡ model.entryAt (drop (2 + i * model.entrySize) (now (s .entry))) ⌝ }
+{
+    entry_at(s, ENTRIES + i * ENTRY_SIZE)
 }
 
 // Written out: a loop would have to fill the array before, and took twice as long.
@@ -69,22 +102,22 @@ fn entries(s: &[u8]) -> [Processor; 16]
     ensures { λ r. ⌜ r ≡ model.entriesAt processorLimit (drop 2 (now (s .entry))) ⌝ }
 {
     [
-        entry_at(s, 2),
-        entry_at(s, 53),
-        entry_at(s, 104),
-        entry_at(s, 155),
-        entry_at(s, 206),
-        entry_at(s, 257),
-        entry_at(s, 308),
-        entry_at(s, 359),
-        entry_at(s, 410),
-        entry_at(s, 461),
-        entry_at(s, 512),
-        entry_at(s, 563),
-        entry_at(s, 614),
-        entry_at(s, 665),
-        entry_at(s, 716),
-        entry_at(s, 767),
+        entry_number(s, 0),
+        entry_number(s, 1),
+        entry_number(s, 2),
+        entry_number(s, 3),
+        entry_number(s, 4),
+        entry_number(s, 5),
+        entry_number(s, 6),
+        entry_number(s, 7),
+        entry_number(s, 8),
+        entry_number(s, 9),
+        entry_number(s, 10),
+        entry_number(s, 11),
+        entry_number(s, 12),
+        entry_number(s, 13),
+        entry_number(s, 14),
+        entry_number(s, 15),
     ]
 }
 
@@ -106,14 +139,14 @@ fn platform_at(s: &[u8], at: usize) -> Platform
     ensures { λ r. ⌜ r ≡ model.platformAt (drop at (now (s .entry))) ⌝ }
 {
     let backup = slot_at(s, at);
-    let store = slot_at(s, at + 51);
+    let store = slot_at(s, at + SLOT_SIZE);
     Platform {
         backup,
         store,
-        pending: s[at + 102],
-        valid: s[at + 103],
-        error: s[at + 104],
-        consumed: s[at + 105],
+        pending: s[at + PENDING],
+        valid: s[at + VALID],
+        error: s[at + ERROR],
+        consumed: s[at + CONSUMED],
     }
 }
 
@@ -123,7 +156,7 @@ pub fn read_machine(s: &[u8]) -> Machine
     ensures { λ r. ⌜ r ≡ model.machineAt (now (s .entry)) ⌝ }
 {
     let processors = entries(s);
-    let platform = platform_at(s, 818);
+    let platform = platform_at(s, PLATFORM);
     Machine {
         count: s[0],
         features: s[1],
@@ -160,9 +193,9 @@ fn put_key(s: &mut [u8], at: usize, k: IwKey)
     let integrity = k.integrity;
     let encryption = k.encryption;
     put_16(s, at, integrity);
-    put_32(s, at + 16, encryption);
-    s[at + 48] = k.source;
-    s[at + 49] = k.no_backup;
+    put_32(s, at + INTEGRITY_SIZE, encryption);
+    s[at + SOURCE] = k.source;
+    s[at + NO_BACKUP] = k.no_backup;
 }
 
 fn put_entry(s: &mut [u8], at: usize, e: Processor)
@@ -171,7 +204,7 @@ fn put_entry(s: &mut [u8], at: usize, e: Processor)
 {
     let key = e.key;
     put_key(s, at, key);
-    s[at + 50] = e.copy_status;
+    s[at + KEY_SIZE] = e.copy_status;
 }
 
 fn put_entries(s: &mut [u8], at: usize, l: [Processor; 16])
@@ -180,7 +213,7 @@ fn put_entries(s: &mut [u8], at: usize, l: [Processor; 16])
 {
     for i in 0..16usize {
         let e = l[i];
-        put_entry(s, at + i * 51, e);
+        put_entry(s, at + i * ENTRY_SIZE, e);
     }
 }
 
@@ -200,11 +233,11 @@ fn put_platform(s: &mut [u8], at: usize, f: Platform)
     let backup = f.backup;
     let store = f.store;
     put_slot(s, at, backup);
-    put_slot(s, at + 51, store);
-    s[at + 102] = f.pending;
-    s[at + 103] = f.valid;
-    s[at + 104] = f.error;
-    s[at + 105] = f.consumed;
+    put_slot(s, at + SLOT_SIZE, store);
+    s[at + PENDING] = f.pending;
+    s[at + VALID] = f.valid;
+    s[at + ERROR] = f.error;
+    s[at + CONSUMED] = f.consumed;
 }
 
 pub fn write_machine(s: &mut [u8], m: Machine)
@@ -215,6 +248,6 @@ pub fn write_machine(s: &mut [u8], m: Machine)
     let platform = m.platform;
     s[0] = m.count;
     s[1] = m.features;
-    put_entries(s, 2, processors);
-    put_platform(s, 818, platform);
+    put_entries(s, ENTRIES, processors);
+    put_platform(s, PLATFORM, platform);
 }

@@ -50,6 +50,10 @@ const CR0_EM: u8 = 2;
 
 const CR0_TS: u8 = 3;
 
+const CPU_SIZE: usize = 408;
+
+const RANDOM_SIZE: usize = 48;
+
 fn bit(i: u8, x: u8) -> bool
     requires { ⌜ i < 8 ⌝ }
     ensures { λ r. ⌜ r ≡ model.bit i x ⌝ }
@@ -233,7 +237,7 @@ pub fn record_refusal(cpu: &[u8], memory: usize, random: usize) -> u8
     if 1048576 < memory {
         return 6;
     }
-    if !((random == 0) | (random == 48)) {
+    if !((random == 0) | (random == RANDOM_SIZE)) {
         return 7;
     }
     0
@@ -254,7 +258,7 @@ pub fn step_refusal(
     if count <= processor {
         return 3;
     }
-    if cpu.len() != 408 {
+    if cpu.len() != CPU_SIZE {
         return 4;
     }
     let record = record_refusal(cpu, memory, random);

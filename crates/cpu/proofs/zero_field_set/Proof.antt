@@ -14,17 +14,32 @@ shared-slice-read-result c = search needs
 shared-slice-read-result-2 : tie.Need-shared-slice-read-result-2
 shared-slice-read-result-2 c = search needs
 
+add-result : tie.Need-add-result
+add-result c = search needs
+
 shared-slice-read-result-3 : tie.Need-shared-slice-read-result-3
 shared-slice-read-result-3 c = search needs
+
+add-result-2 : tie.Need-add-result-2
+add-result-2 c = search needs
 
 shared-slice-read-result-4 : tie.Need-shared-slice-read-result-4
 shared-slice-read-result-4 c = search needs
 
+add-result-3 : tie.Need-add-result-3
+add-result-3 c = search needs
+
 shared-slice-read-result-5 : tie.Need-shared-slice-read-result-5
 shared-slice-read-result-5 c = search needs
 
+add-result-4 : tie.Need-add-result-4
+add-result-4 c = search needs
+
 shared-slice-read-result-6 : tie.Need-shared-slice-read-result-6
 shared-slice-read-result-6 c = search needs
+
+add-result-5 : tie.Need-add-result-5
+add-result-5 c = search needs
 
 shared-slice-read-result-7 : tie.Need-shared-slice-read-result-7
 shared-slice-read-result-7 c = search needs
@@ -41,9 +56,14 @@ zero-field-set-spec =
     (tie.spec
     shared-slice-read-result
     shared-slice-read-result-2
+    add-result
     shared-slice-read-result-3
+    add-result-2
     shared-slice-read-result-4
+    add-result-3
     shared-slice-read-result-5
+    add-result-4
     shared-slice-read-result-6
+    add-result-5
     shared-slice-read-result-7
     returns)
