@@ -5,8 +5,9 @@
 #include "chance.h"
 
 static const uint8_t opcodes[FORMS] = {
-    [AESENC128KL] = 0xDC,     [AESDEC128KL] = 0xDD,     [AESENC256KL] = 0xDE,     [AESDEC256KL] = 0xDF, [AESENCWIDE128KL] = 0xD8, [AESDECWIDE128KL] = 0xD8,
-    [AESENCWIDE256KL] = 0xD8, [AESDECWIDE256KL] = 0xD8, [LOADIWKEY] = 0xDC, [ENCODEKEY128] = 0xFA,    [ENCODEKEY256] = 0xFB,
+    [AESENC128KL] = 0xDC,     [AESDEC128KL] = 0xDD,     [AESENC256KL] = 0xDE,     [AESDEC256KL] = 0xDF,
+    [AESENCWIDE128KL] = 0xD8, [AESDECWIDE128KL] = 0xD8, [AESENCWIDE256KL] = 0xD8, [AESDECWIDE256KL] = 0xD8,
+    [LOADIWKEY] = 0xDC,       [ENCODEKEY128] = 0xFA,    [ENCODEKEY256] = 0xFB,
 };
 
 static void put(struct trial *t, unsigned byte)
@@ -69,12 +70,14 @@ static void choose_operand(struct operand *o, unsigned *mod)
         do
             o->base = but_not(16, 4);
         while (*mod == 0 && (o->base & 7) == 5);
+        if (*mod != 0 && one_in(3))
+            o->base = RBP;
         break;
     case SHAPE_SIB_BASE:
     case SHAPE_SIB_BASE_INDEX:
     case SHAPE_SIB_BASE_TWICE:
         *mod = (unsigned)below(3);
-        o->base = *mod == 0 ? but_not(16, 5) : (unsigned)below(16);
+        o->base = one_in(3) ? RSP : *mod == 0 ? but_not(16, 5) : (unsigned)below(16);
         if (o->shape == SHAPE_SIB_BASE_TWICE && o->base == RSP)
             o->base = RBX;
         do

@@ -5,7 +5,7 @@
 #include <stdlib.h>
 #include <string.h>
 
-#include "chance.h"
+#include "faults.h"
 #include "keylocker.h"
 #include "machine.h"
 #include "spoil.h"
@@ -15,13 +15,13 @@ const uint64_t VALUE_BEFORE = UINT64_C(0xA5C3960F1E2D4B78);
 const char *const call_names[CALL_KINDS] = {"power-on", "step", "read", "write", "settle", "sleep", "reset"};
 
 /* A buffer of exactly its length, so that valgrind sees any access behind it. Of no bytes it is a null pointer or an empty allocation. */
-static struct buffer exact_copy(struct buffer from)
+static struct buffer exact_copy(const struct trial *t, struct buffer from)
 {
     struct buffer copy = {NULL, from.length};
-    if (from.length == 0 && (from.bytes[0] & 1))
+    if (from.length == 0 && t->null_if_empty)
         return copy;
     copy.bytes = malloc(from.length);
-    if (!copy.bytes && from.length)
+    if (!copy.bytes)
         abort();
     memcpy(copy.bytes, from.bytes, from.length);
     return copy;
@@ -30,8 +30,8 @@ static struct buffer exact_copy(struct buffer from)
 static void copy_lent(const struct trial *t, struct run *run)
 {
     run->call = t->call;
-    run->machine = exact_copy(t->machine);
-    run->call.cpu = exact_copy(t->call.cpu);
+    run->machine = exact_copy(t, t->machine);
+    run->call.cpu = exact_copy(t, t->call.cpu);
     run->value = malloc(sizeof *run->value);
     if (!run->value)
         abort();
@@ -60,13 +60,45 @@ static uint32_t library_call(struct run *r)
     }
 }
 
+/* What the comparison and valgrind have to see, done in the library's stead. */
+static void misuse(struct run *r)
+{
+    struct call *c = &r->call;
+    volatile uint8_t behind = 0;
+    if (FAULT(MEMORY_WRITTEN) && c->memory.length)
+        c->memory.bytes[c->memory.length - 1] ^= 1;
+    if (FAULT(RANDOM_WRITTEN) && c->random.length)
+        c->random.bytes[0] ^= 1;
+    if (FAULT(STRING_WRITTEN) && c->string.length)
+        c->string.bytes[c->string.length - 1] ^= 1;
+    if (FAULT(REFUSED_WRITES_MACHINE) && r->number && r->machine.length)
+        r->machine.bytes[r->machine.length - 1] ^= 1;
+    if (FAULT(REFUSED_WRITES_CPU) && r->number && c->cpu.length)
+        c->cpu.bytes[c->cpu.length - 1] ^= 1;
+    if (FAULT(REFUSED_WRITES_VALUE) && r->number)
+        *r->value = 0;
+    if (FAULT(BEHIND_MACHINE) && r->machine.bytes)
+        behind = r->machine.bytes[r->machine.length];
+    if (FAULT(BEHIND_CPU) && c->cpu.bytes)
+        behind = c->cpu.bytes[c->cpu.length];
+    if (FAULT(BEHIND_MEMORY) && c->memory.bytes)
+        behind = c->memory.bytes[c->memory.length];
+    if (FAULT(BEHIND_RANDOM) && c->random.bytes)
+        behind = c->random.bytes[c->random.length];
+    if (FAULT(BEHIND_STRING) && c->string.bytes)
+        behind = c->string.bytes[c->string.length];
+    (void)behind;
+}
+
 void run_library(const struct trial *t, struct run *run)
 {
     copy_lent(t, run);
-    run->call.memory = exact_copy(t->call.memory);
-    run->call.random = exact_copy(t->call.random);
-    run->call.string = exact_copy(t->call.string);
+    run->call.memory = exact_copy(t, t->call.memory);
+    run->call.random = exact_copy(t, t->call.random);
+    run->call.string = exact_copy(t, t->call.string);
     run->number = library_call(run);
+    if (FAULTY)
+        misuse(run);
 }
 
 /* The model only reads memory, random data and string: it is lent the trial's own. */
@@ -147,8 +179,8 @@ static void print_arguments(const struct trial *t)
     for (int i = 0; i < 2; i++)
         if (t->spoils[i] >= 0)
             printf("  spoiled: %s (%u)\n", spoils[t->spoils[i]].reason, spoils[t->spoils[i]].number);
-    printf("  count %u, features 0x%02x, processor %u, cpl %u, address 0x%" PRIx32 ", value 0x%" PRIx64 ", code %u\n", c->count, c->features, c->processor,
-           c->cpl, c->address, c->value, c->code);
+    printf("  count %u, features 0x%02x, processor %u, cpl %u, ", c->count, c->features, c->processor, c->cpl);
+    printf("address 0x%" PRIx32 ", value 0x%" PRIx64 ", code %u\n", c->address, c->value, c->code);
     print_buffer("machine", t->machine);
     if (c->kind != STEP)
         return;

@@ -52,6 +52,8 @@
     X(MEMORY_FULL, "steps with 1,048,576 bytes of memory")                    \
     X(MEMORY_NONE, "steps without memory")                                    \
     X(STRING_NONE, "steps without a string")                                  \
+    X(NULL_POINTER, "null pointers for empty buffers")                        \
+    X(EMPTY_BUFFER, "empty buffers that are no null pointers")                \
     X(WIDE_REX_R, "wide uses with REX.R")                                     \
     X(LAST_CANONICAL, "handles that end with the last byte of the lower half") \
     X(OVER_THE_TOP, "handles that run over the top of the number range")      \
@@ -90,7 +92,7 @@ static const char *const use_texts[] = {"AESENC128KL",     "AESDEC128KL",     "A
 
 enum { SPOILS_MOST = 128 };
 static unsigned long numbers[CALL_KINDS][NUMBERS], events[EVENT_COUNT], uses[USE_FORMS][2], origins[ORIGINS][2], shapes[SHAPES][2];
-static unsigned long spoiled_alone[SPOILS_MOST], spoiled_first[SPOILS_MOST];
+static unsigned long spoiled_alone[SPOILS_MOST], spoiled_first[SPOILS_MOST], orders[NUMBERS][NUMBERS];
 
 /* Which refusals a kind of call meets ("a check that a call has no operand for is skipped"). */
 static bool meets(enum call_kind kind, unsigned number)
@@ -107,6 +109,15 @@ static bool meets(enum call_kind kind, unsigned number)
     default:
         return number <= R1_MACHINE;
     }
+}
+
+/* Two refusals that one call can meet and that can be told apart by their order. No call meets both 2 and a later one; what cuts a string may cut
+ * the byte of 8 away; a handle is in one segment. */
+static bool has_order(unsigned low, unsigned high)
+{
+    if (low == 0 || low >= high || low == R2_CODE || (high == R2_CODE && low != R1_MACHINE))
+        return false;
+    return !(low == R8_BYTE && high == R9_STRING_ENDS) && !(low == R12_GP && high == R13_SS);
 }
 
 static void note(bool occurred, enum event event)
@@ -221,6 +232,16 @@ static void cover_spoils(const struct trial *t)
     if (t->meant == ANY_NUMBER || t->spoils[0] < 0)
         return;
     (t->spoils[1] < 0 ? spoiled_alone : spoiled_first)[t->spoils[0]]++;
+    if (t->spoils[1] >= 0)
+        orders[spoils[t->spoils[0]].number][spoils[t->spoils[1]].number]++;
+}
+
+static void note_empty(const struct trial *t)
+{
+    const struct call *c = &t->call;
+    bool empty = t->machine.length == 0 || (c->kind == STEP && (!c->cpu.length || !c->memory.length || !c->random.length || !c->string.length));
+    note(empty && t->null_if_empty, EVENT_NULL_POINTER);
+    note(empty && !t->null_if_empty, EVENT_EMPTY_BUFFER);
 }
 
 void cover_call(const struct trial *t, const struct run *library)
@@ -229,6 +250,7 @@ void cover_call(const struct trial *t, const struct run *library)
     numbers[t->call.kind][library->number]++;
     cover_spoils(t);
     note(t->made, EVENT_MADE_RECORD);
+    note_empty(t);
     if (t->call.kind == STEP)
         cover_step(t, library);
     if (library->number)
@@ -279,9 +301,26 @@ static void print_numbers(void)
     printf("\n");
 }
 
+static void print_orders(void)
+{
+    printf("\ntwo refusals: the row's came before the column's\n          ");
+    for (int high = 2; high < NUMBERS; high++)
+        printf("%7d", high);
+    for (unsigned low = 1; low < NUMBERS - 1; low++) {
+        printf("\n%-10u", low);
+        for (unsigned high = 2; high < NUMBERS; high++)
+            if (has_order(low, high))
+                printf("%7lu", orders[low][high]);
+            else
+                printf("%7s", low < high ? "-" : "");
+    }
+    printf("\n");
+}
+
 void print_coverage(void)
 {
     print_numbers();
+    print_orders();
     print_pairs("uses", use_texts, uses, USE_FORMS);
     print_pairs("uses of handles", origin_texts, origins, ORIGINS);
     print_pairs("uses by operand", shape_texts, shapes, SHAPES);
@@ -308,6 +347,12 @@ bool coverage_is_full(void)
             char text[32];
             snprintf(text, sizeof text, "%s %u", call_names[kind], number);
             full &= !meets((enum call_kind)kind, number) || need(numbers[kind][number], "answer", text);
+        }
+    for (unsigned low = 1; low < NUMBERS; low++)
+        for (unsigned high = 1; high < NUMBERS; high++) {
+            char text[32];
+            snprintf(text, sizeof text, "%u before %u", low, high);
+            full &= !has_order(low, high) || need(orders[low][high], "order", text);
         }
     for (int i = 0; i < USE_FORMS; i++)
         full &= need(uses[i][0], "ZF 0", use_texts[i]) && need(uses[i][1], "ZF 1", use_texts[i]);

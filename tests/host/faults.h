@@ -1,5 +1,6 @@
 /* Faults planted in the model, one at a time, to show that the runner finds them: FAULT(name) is true only in a model compiled with
- * -DFAULTY=n, where n is the place of that name in the list. tests/host/faults.sh builds and runs them. */
+ * -DFAULTY=n, where n is the place of that name in the list. The last ones stand around the library's call instead, as if the library misused
+ * what it was lent. tests/host/faults.sh builds and runs them all. */
 #ifndef FAULTS_H
 #define FAULTS_H
 
@@ -48,6 +49,9 @@
     X(LAST_ZERO_FREE, "the last byte of the CPU record may be set")                                    \
     X(MEMORY_LIMIT, "memory of 1,048,577 bytes is taken")                                              \
     X(RANDOM_LENGTH, "random data of more than 48 bytes is taken")                                     \
+    X(CPU_BEFORE_PROCESSOR, "the CPU record is tested before the processor number")                    \
+    X(STRING_BEFORE_RANDOM, "the string is read before the random data's length is tested")            \
+    X(REGISTER_BEFORE_CPL, "a register's address is tested before the CPL argument")                   \
     X(UD_ALWAYS, "#UD for everything")                                                                 \
     X(NM_BEFORE_UD, "#NM is tested before #UD")                                                        \
     X(FIRMWARE_FOR_LOAD, "LOADIWKEY needs the firmware bit")                                           \
@@ -107,7 +111,20 @@
     X(HISTORY_BAD_SETTLE, "history: a bad settle keeps the store's name")                              \
     X(HISTORY_SLEEP_KEEPS_NAMES, "history: sleep keeps the processors' names")                         \
     X(HISTORY_PRIVILEGE, "history: CPL 0 only allows every CPL")                                       \
-    X(HISTORY_SIZE, "history: a 128 form may use a 64-byte handle")
+    X(HISTORY_SIZE, "history: a 128 form may use a 64-byte handle")                                    \
+    /* lent buffers */                                                                                 \
+    X(MEMORY_WRITTEN, "memory is written")                                                             \
+    X(RANDOM_WRITTEN, "random data is written")                                                        \
+    X(STRING_WRITTEN, "the string is written")                                                         \
+    X(REFUSED_WRITES_MACHINE, "a refused call writes the machine")                                     \
+    X(REFUSED_WRITES_CPU, "a refused call writes the CPU record")                                      \
+    X(REFUSED_WRITES_VALUE, "a refused call writes the value")                                         \
+    /* seen only under valgrind */                                                                     \
+    X(BEHIND_MACHINE, "a byte behind the machine is read")                                             \
+    X(BEHIND_CPU, "a byte behind the CPU record is read")                                              \
+    X(BEHIND_MEMORY, "a byte behind memory is read")                                                   \
+    X(BEHIND_RANDOM, "a byte behind the random data is read")                                          \
+    X(BEHIND_STRING, "a byte behind the string is read")
 
 enum fault {
     FAULT_NONE,

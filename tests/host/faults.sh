@@ -32,6 +32,19 @@ while read -r number name text; do
     fi
     build "$number" "$name"
     status=0
+    case "$name" in
+    BEHIND_*)
+        valgrind --quiet --error-exitcode=3 --exit-on-first-error=yes "$work/runner" --calls 300 >"$work/log" 2>&1 || status=$?
+        if [ "$status" -eq 3 ] && grep -q "Invalid read" "$work/log"; then
+            echo "fault $number ($text): found by valgrind"
+            found=$((found + 1))
+        else
+            echo "fault $number ($text): NOT found by valgrind (exit $status)"
+            missed=$((missed + 1))
+        fi
+        continue
+        ;;
+    esac
     "$work/runner" --calls "$calls" >"$work/log" 2>&1 || status=$?
     call=$(sed -n 's/^difference at call \([0-9]*\): .*/\1/p' "$work/log")
     what=$(sed -n 's/^difference at call [0-9]*: //p' "$work/log")

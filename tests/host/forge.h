@@ -4,7 +4,7 @@
 
 #include "trial.h"
 
-/* A handle of the origin, for the IWKey; sets its length. Some origins need an encoded handle to start from. False if there is none for this IWKey. */
+/* A handle of the origin, for the IWKey. Some origins start from an encoded handle. False if there is none for this IWKey. */
 bool forge_handle(enum handle_origin origin, const struct iwkey *iwkey, const struct known_handle *known, struct known_handle *handle);
 
 #endif

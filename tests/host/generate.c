@@ -10,7 +10,8 @@
 /* 64 bits of every kind: small, large, near the edges of canonical addresses and of the number range */
 static uint64_t interesting64(void)
 {
-    static const uint64_t edges[] = {0, 0x7FFFFFFFFFFF, 0x800000000000, UINT64_C(0xFFFF800000000000), UINT64_MAX, MEMORY_LIMIT, 0x80000000, 0x100000000};
+    static const uint64_t edges[] = {0,          0x7FFFFFFFFFFF, 0x800000000000, UINT64_C(0xFFFF800000000000),
+                                     UINT64_MAX, MEMORY_LIMIT,   0x80000000,     0x100000000};
     switch (below(4)) {
     case 0:
         return below(512);
@@ -38,6 +39,21 @@ static uint8_t some_count(void)
 static uint8_t some_processor(const struct machine *m)
 {
     return (uint8_t)below(one_in(3) ? m->count : m->count < 4 ? m->count : 4);
+}
+
+static bool has_key(const struct machine *m, uint8_t processor)
+{
+    static const struct iwkey zero;
+    return memcmp(&m->processors[processor].iwkey, &zero, sizeof zero) != 0;
+}
+
+/* rather one whose IWKey was loaded */
+static uint8_t some_loaded_processor(const struct machine *m)
+{
+    uint8_t processor = some_processor(m);
+    for (int tries = 0; tries < 3 && !has_key(m, processor); tries++)
+        processor = some_processor(m);
+    return processor;
 }
 
 static void make_iwkey(const struct world *world, struct iwkey *iwkey)
@@ -139,19 +155,20 @@ static void choose_load(struct trial *t)
     cpu->cpl = 0;
 }
 
-/* an encoded handle under the IWKey of a processor, and that processor */
+/* an encoded handle under the IWKey of the processor, or of a later one, and that processor */
 static const struct known_handle *find_fitting(const struct world *world, const struct machine *m, uint8_t *processor)
 {
-    size_t start = world->known_count ? below(world->known_count) : 0, first = below(m->count);
-    for (size_t i = 0; i < world->known_count; i++)
-        for (size_t p = 0; p < m->count; p++) {
+    size_t start = world->known_count ? below(world->known_count) : 0;
+    for (uint8_t tries = 0; tries < m->count; tries++) {
+        uint8_t candidate = (uint8_t)((*processor + tries) % m->count);
+        for (size_t i = 0; i < world->known_count; i++) {
             const struct known_handle *known = &world->known[(start + i) % world->known_count];
-            uint8_t candidate = (uint8_t)((first + p) % m->count);
             if (memcmp(&known->iwkey, &m->processors[candidate].iwkey, sizeof known->iwkey) == 0) {
                 *processor = candidate;
                 return known;
             }
         }
+    }
     return NULL;
 }
 
@@ -204,12 +221,12 @@ static void choose_use(const struct world *world, struct trial *t)
 static void choose_step(const struct world *world, struct trial *t)
 {
     t->call.kind = STEP;
-    t->call.processor = some_processor(trial_machine(t));
     choose_cpu(t);
     unsigned choice = (unsigned)below(20);
-    if (choice < 2)
+    t->call.processor = choice < 3 ? some_processor(trial_machine(t)) : some_loaded_processor(trial_machine(t));
+    if (choice < 3)
         choose_load(t);
-    else if (choice < 6)
+    else if (choice < 7)
         choose_encode(t);
     else
         choose_use(world, t);
@@ -287,17 +304,17 @@ static void mutate(struct trial *t)
 static void choose_call(const struct world *world, struct trial *t)
 {
     unsigned choice = (unsigned)below(1000);
-    if (choice < 655)
+    if (choice < 670)
         choose_step(world, t);
-    else if (choice < 820)
+    else if (choice < 840)
         choose_register(t, true);
-    else if (choice < 885)
+    else if (choice < 900)
         choose_register(t, false);
-    else if (choice < 955)
+    else if (choice < 965)
         choose_platform(t, SETTLE);
-    else if (choice < 975)
-        choose_platform(t, SLEEP);
     else if (choice < 982)
+        choose_platform(t, SLEEP);
+    else if (choice < 986)
         choose_platform(t, RESET);
     else
         choose_power_on(t, 1);
@@ -309,6 +326,7 @@ static void begin(const struct world *world, struct trial *t)
     memcpy(t->machine_room, &world->machines[t->machine_number].machine, sizeof(struct machine));
     t->machine = (struct buffer){t->machine_room, sizeof(struct machine)};
     t->call = (struct call){.cpu = {t->cpu_room, 0}, .memory = {t->memory_room, 0}, .random = {t->random_room, 0}, .string = {t->string_room, 0}};
+    t->null_if_empty = one_in(2);
     t->carried = true;
     t->made = t->meant_string = false;
     t->spoils[0] = t->spoils[1] = -1;

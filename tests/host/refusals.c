@@ -62,7 +62,7 @@ static uint32_t register_refusal(uint8_t count, uint8_t features, const struct c
     uint64_t value = FAULT(REGISTER_BIT_63) ? (uint32_t)call->value : call->value;
     if (call->processor >= count)
         return R3_PROCESSOR;
-    if (call->cpl > 3)
+    if (call->cpl > 3 && !(FAULT(REGISTER_BEFORE_CPL) && !to_read && !to_write))
         return R5_CPU;
     if (call->cpl > 0 || !(features & F_BACKUP) || (!(features & F_KL) && !FAULT(REGISTER_WITHOUT_KL)))
         return R12_GP;
@@ -140,11 +140,16 @@ static bool cpu_refused(const struct cpu *cpu)
     return cpu->cpl > 3 || (cpu->control > C_ALL && !FAULT(CONTROL_BITS_FREE)) || !all_zero(cpu->zeros, zeros);
 }
 
+static bool random_refused(size_t length)
+{
+    return length != 0 && length != RANDOM_SIZE && !(FAULT(RANDOM_LENGTH) && length > RANDOM_SIZE);
+}
+
 /* 3 to 14 */
 static uint32_t step_refusal(uint8_t count, uint8_t features, const struct call *call, struct instruction *instruction)
 {
     struct cpu cpu;
-    if (call->processor >= count)
+    if (call->processor >= count && !(FAULT(CPU_BEFORE_PROCESSOR) && call->cpu.length != sizeof cpu))
         return R3_PROCESSOR;
     if (call->cpu.length != sizeof cpu)
         return R4_CPU_LENGTH;
@@ -153,9 +158,9 @@ static uint32_t step_refusal(uint8_t count, uint8_t features, const struct call 
         return R5_CPU;
     if (call->memory.length > MEMORY_LIMIT + (FAULT(MEMORY_LIMIT) ? 1 : 0))
         return R6_MEMORY;
-    if (call->random.length != 0 && call->random.length != RANDOM_SIZE && !(FAULT(RANDOM_LENGTH) && call->random.length > RANDOM_SIZE))
-        return R7_RANDOM;
     uint32_t refusal = decode(call->string, instruction);
+    if (random_refused(call->random.length) && !(FAULT(STRING_BEFORE_RANDOM) && refusal))
+        return R7_RANDOM;
     if (refusal)
         return refusal;
     if (FAULT(NM_BEFORE_UD) && cpu.control & C_TS)

@@ -15,7 +15,7 @@
 #include "selfcheck.h"
 
 /* a shorter run may miss rare events */
-enum { CALLS_FOR_COVERAGE = 100000 };
+enum { CALLS_FOR_COVERAGE = 200000 };
 
 static struct world world;
 static struct trial trial;
@@ -143,7 +143,7 @@ static void parse(int argc, char **argv, struct options *options)
 
 int main(int argc, char **argv)
 {
-    struct options options = {.seed = 1, .calls = 200000, .vectors = "tests/vectors"};
+    struct options options = {.seed = 1, .calls = 500000, .vectors = "tests/vectors"};
     if (argc == 2 && strcmp(argv[1], "--faults") == 0)
         return list_faults();
     parse(argc, argv, &options);

@@ -261,8 +261,11 @@ static size_t map_at(const struct trial *t)
     return f3_at(t) + 1 + has_rex(t);
 }
 
+/* in a string that was cut before, at its end at most */
 static bool insert(struct trial *t, size_t at, uint8_t byte)
 {
+    if (at > t->call.string.length)
+        at = t->call.string.length;
     memmove(t->string_room + at + 1, t->string_room + at, t->call.string.length++ - at);
     t->string_room[at] = byte;
     return true;
@@ -668,12 +671,12 @@ const struct spoil spoils[] = {
 };
 const int spoil_count = sizeof spoils / sizeof *spoils;
 
-/* half the time a refusal first, so that those with one reason are not rare */
+/* mostly a refusal first, and then one of its reasons, so that those with one reason are not rare */
 static int some_spoil(void)
 {
     uint32_t number = (uint32_t)(1 + below(NUMBERS - 1));
     int chosen;
-    bool by_number = one_in(2);
+    bool by_number = !one_in(3);
     do
         chosen = (int)below((uint64_t)spoil_count);
     while (by_number && spoils[chosen].number != number);
@@ -689,15 +692,26 @@ static void apply(struct trial *t, int chosen)
 }
 
 /* The higher number first: what the lower one needs is then the last that was written. */
+static void apply_two(struct trial *t)
+{
+    static struct trial before;
+    before = *t;
+    for (int tries = 0; tries < 30 && t->spoils[1] < 0; tries++) {
+        int first = some_spoil(), second = some_spoil();
+        if (first == second)
+            continue;
+        *t = before;
+        apply(t, second > first ? second : first);
+        apply(t, second > first ? first : second);
+    }
+}
+
 void spoil(struct trial *t)
 {
-    int second = one_in(3) ? some_spoil() : -1;
-    for (int tries = 0; tries < 30 && t->spoils[0] < 0; tries++) {
-        int first = some_spoil();
-        if (second > first)
-            apply(t, second);
-        apply(t, first);
-    }
+    if (one_in(2))
+        apply_two(t);
+    for (int tries = 0; tries < 30 && t->spoils[0] < 0; tries++)
+        apply(t, some_spoil());
     if (t->spoils[0] < 0)
         return;
     uint32_t low = spoils[t->spoils[0]].number, high = t->spoils[1] < 0 ? 0 : spoils[t->spoils[1]].number;

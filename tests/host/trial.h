@@ -76,6 +76,7 @@ struct trial {
     unsigned machine_number;
     bool carried; /* the record afterwards is the machine's; otherwise the call is made on a copy */
     bool made;    /* the record was made by hand and not by calls */
+    bool null_if_empty; /* buffers of no bytes are null pointers */
     struct buffer machine;
     struct call call;
     uint32_t meant; /* the number that the generator means, or ANY_NUMBER */
