@@ -3,66 +3,67 @@
 #include <stdio.h>
 #include <string.h>
 
-#include "chance.h"
 #include "refusals.h"
 #include "spoil.h"
 
 /* "must": each occurs in every long run */
-#define EVENTS(X)                                                             \
-    X(LOAD_0, "LOADIWKEY, key source 0")                                      \
-    X(LOAD_0_RANDOM, "LOADIWKEY, key source 0 with random data lent")         \
-    X(LOAD_1, "LOADIWKEY, key source 1")                                      \
-    X(LOAD_NOT_READY, "LOADIWKEY, not ready")                                 \
-    X(LOAD_NO_BACKUP, "LOADIWKEY, NoBackup")                                  \
-    X(ENCODE_128, "ENCODEKEY128")                                             \
-    X(ENCODE_256, "ENCODEKEY256")                                             \
-    X(ENCODE_CPL_3, "encode for CPL 0 only, at CPL 3")                        \
-    X(ENCODE_ALIKE, "encode with destination and source alike")               \
-    X(COPY_OUT_WORKED, "copy out worked")                                     \
-    X(COPY_OUT_AGAIN, "copy out worked over an earlier backup")               \
-    X(COPY_OUT_NO_BACKUP, "copy out failed, NoBackup")                        \
-    X(COPY_OUT_PENDING, "copy out failed, pending")                           \
-    X(COPY_IN_WORKED, "copy in worked")                                       \
-    X(COPY_IN_OVER_KEY, "copy in worked over another key")                    \
-    X(COPY_IN_PENDING, "copy in worked while pending")                        \
-    X(COPY_IN_FAILED, "copy in failed, no backup")                            \
-    X(COPY_IN_FAILED_STATUS, "copy in failed, copy status was 1")             \
-    X(WRITE_0, "0 written with copy status 1")                                \
-    X(READ_STATUS_0, "copy status read, 0")                                   \
-    X(READ_STATUS_1, "copy status read, 1")                                   \
-    X(READ_VALID, "backup status read with valid")                            \
-    X(READ_ERROR, "backup status read with error")                            \
-    X(READ_CONSUMED, "backup status read with consumed")                      \
-    X(SETTLE_GOOD, "settle good, pending")                                    \
-    X(SETTLE_BAD, "settle bad, pending")                                      \
-    X(SETTLE_GOOD_IDLE, "settle good, nothing pending")                       \
-    X(SETTLE_BAD_IDLE, "settle bad, nothing pending")                         \
-    X(SETTLE_NO_BACKUP, "settle good, pending without a backup")              \
-    X(SLEEP_OLD_PENDING, "sleep, pending, old")                               \
-    X(SLEEP_NEW_PENDING, "sleep, pending, new")                               \
-    X(SLEEP_JUNK_PENDING, "sleep, pending, junk")                             \
-    X(SLEEP_OLD, "sleep, nothing pending, old")                               \
-    X(SLEEP_NEW, "sleep, nothing pending, new")                               \
-    X(SLEEP_JUNK, "sleep, nothing pending, junk")                             \
-    X(SLEEP_NO_BACKUP, "sleep, pending without a backup, new")                \
-    X(SLEEP_AFTER_BAD, "sleep with a backup and no store")                    \
-    X(RESET_BACKUP, "reset with a backup")                                    \
-    X(POWER_ON_BAD_RECORD, "power-on over a record that refusal 1 names")     \
-    X(MADE_RECORD, "calls on a record just made by hand")                     \
-    X(MEMORY_FULL, "steps with 1,048,576 bytes of memory")                    \
-    X(MEMORY_NONE, "steps without memory")                                    \
-    X(STRING_NONE, "steps without a string")                                  \
-    X(NULL_POINTER, "null pointers for empty buffers")                        \
-    X(EMPTY_BUFFER, "empty buffers that are no null pointers")                \
-    X(WIDE_REX_R, "wide uses with REX.R")                                     \
-    X(LAST_CANONICAL, "handles that end with the last byte of the lower half") \
-    X(OVER_THE_TOP, "handles that run over the top of the number range")      \
-    X(SAME_NAME_ALLOWED, "demand 3: same name, allowed")                      \
-    X(SAME_NAME_SIZE, "demand 3: same name, key size forbids")                \
-    X(SAME_NAME_PRIVILEGE, "demand 3: same name, privilege forbids")          \
-    X(SAME_NAME_DIRECTION, "demand 3: same name, direction forbids")          \
-    X(SAME_NAME_PROCESSOR, "demand 3: same name, on another processor")       \
-    X(SAME_NAME_SLEPT, "demand 3: same name, loaded and encoded before a sleep") \
+#define EVENTS(X)                                                                     \
+    X(LOAD_0, "LOADIWKEY, key source 0")                                              \
+    X(LOAD_0_RANDOM, "LOADIWKEY, key source 0 with random data lent")                 \
+    X(LOAD_1, "LOADIWKEY, key source 1")                                              \
+    X(LOAD_NOT_READY, "LOADIWKEY, not ready")                                         \
+    X(LOAD_NO_BACKUP, "LOADIWKEY, NoBackup")                                          \
+    X(LOAD_NO_FIRMWARE, "LOADIWKEY without the firmware bit")                         \
+    X(ENCODE_128, "ENCODEKEY128")                                                     \
+    X(ENCODE_256, "ENCODEKEY256")                                                     \
+    X(ENCODE_CPL_3, "encode for CPL 0 only, at CPL 3")                                \
+    X(ENCODE_ALIKE, "encode with destination and source alike")                       \
+    X(COPY_OUT_WORKED, "copy out worked")                                             \
+    X(COPY_OUT_AGAIN, "copy out worked over an earlier backup")                       \
+    X(COPY_OUT_NO_BACKUP, "copy out failed, NoBackup")                                \
+    X(COPY_OUT_PENDING, "copy out failed, pending")                                   \
+    X(COPY_IN_WORKED, "copy in worked")                                               \
+    X(COPY_IN_OVER_KEY, "copy in worked over another key")                            \
+    X(COPY_IN_PENDING, "copy in worked while pending")                                \
+    X(COPY_IN_FAILED, "copy in failed, no backup")                                    \
+    X(COPY_IN_FAILED_STATUS, "copy in failed, copy status was 1")                     \
+    X(WRITE_0, "0 written with copy status 1")                                        \
+    X(READ_STATUS_0, "copy status read, 0")                                           \
+    X(READ_STATUS_1, "copy status read, 1")                                           \
+    X(READ_VALID, "backup status read with valid")                                    \
+    X(READ_ERROR, "backup status read with error")                                    \
+    X(READ_CONSUMED, "backup status read with consumed")                              \
+    X(SETTLE_GOOD, "settle good, pending")                                            \
+    X(SETTLE_BAD, "settle bad, pending")                                              \
+    X(SETTLE_GOOD_IDLE, "settle good, nothing pending")                               \
+    X(SETTLE_BAD_IDLE, "settle bad, nothing pending")                                 \
+    X(SETTLE_NO_BACKUP, "settle good, pending without a backup")                      \
+    X(SLEEP_OLD_PENDING, "sleep, pending, old")                                       \
+    X(SLEEP_NEW_PENDING, "sleep, pending, new")                                       \
+    X(SLEEP_JUNK_PENDING, "sleep, pending, junk")                                     \
+    X(SLEEP_OLD, "sleep, nothing pending, old")                                       \
+    X(SLEEP_NEW, "sleep, nothing pending, new")                                       \
+    X(SLEEP_JUNK, "sleep, nothing pending, junk")                                     \
+    X(SLEEP_NO_BACKUP, "sleep, pending without a backup, new")                        \
+    X(SLEEP_AFTER_BAD, "sleep with a backup and no store")                            \
+    X(RESET_BACKUP, "reset with a backup")                                            \
+    X(PLATFORM_NO_FEATURES, "settle, sleep or reset without KL or backup feature")    \
+    X(POWER_ON_BAD_RECORD, "power-on over a record that refusal 1 names")             \
+    X(MADE_RECORD, "calls on a record just made by hand")                             \
+    X(MEMORY_FULL, "steps with 1,048,576 bytes of memory")                            \
+    X(MEMORY_NONE, "steps without memory")                                            \
+    X(STRING_NONE, "steps without a string")                                          \
+    X(NULL_POINTER, "null pointers for empty buffers")                                \
+    X(EMPTY_BUFFER, "empty buffers that are no null pointers")                        \
+    X(WIDE_REX_R, "wide uses with REX.R")                                             \
+    X(LAST_CANONICAL, "handles that end with the last byte of the lower half")        \
+    X(OVER_THE_TOP, "handles that run over the top of the number range")              \
+    X(SAME_NAME_ALLOWED, "demand 3: same name, allowed")                              \
+    X(SAME_NAME_SIZE, "demand 3: same name, key size forbids")                        \
+    X(SAME_NAME_PRIVILEGE, "demand 3: same name, privilege forbids")                  \
+    X(SAME_NAME_DIRECTION, "demand 3: same name, direction forbids")                  \
+    X(SAME_NAME_PROCESSOR, "demand 3: same name, on another processor")               \
+    X(SAME_NAME_SLEPT, "demand 3: same name, loaded and encoded before a sleep")      \
     X(NAME_0_AGAIN, "demand 3: name 0 before and after a sleep or reset")
 
 enum event {
@@ -127,12 +128,14 @@ static void note(bool occurred, enum event event)
 
 static void cover_load(const struct trial *t, const struct cpu *before, const struct cpu *after)
 {
+    const struct machine *m = (const struct machine *)t->machine.bytes;
     bool source = before->registers[RAX][0] & 2, failed = load64(after->rflags) & ZF;
     note(!source, EVENT_LOAD_0);
     note(!source && t->call.random.length, EVENT_LOAD_0_RANDOM);
     note(source && !failed, EVENT_LOAD_1);
     note(failed, EVENT_LOAD_NOT_READY);
     note(!failed && before->registers[RAX][0] & 1, EVENT_LOAD_NO_BACKUP);
+    note(!(m->features & F_FIRMWARE), EVENT_LOAD_NO_FIRMWARE);
 }
 
 static void cover_encode(const struct cpu *before, const struct instruction *instruction)
@@ -225,6 +228,7 @@ static void cover_platform(const struct trial *t, const struct machine *before)
         note(!before->pending && before->backup.present && !before->store.present, EVENT_SLEEP_AFTER_BAD);
     }
     note(t->call.kind == RESET && before->backup.present, EVENT_RESET_BACKUP);
+    note(t->call.kind != STEP && (before->features & (F_KL | F_BACKUP)) != (F_KL | F_BACKUP), EVENT_PLATFORM_NO_FEATURES);
 }
 
 static void cover_spoils(const struct trial *t)
