@@ -1,6 +1,6 @@
 #!/bin/sh
 # Builds the model with each planted fault of faults.h in turn, links it with the rest of the runner, and expects a difference.
-# Called by make test-faults, which has built the runner without a fault.
+# Called by make test-faults, which has built the runner without a fault. Arguments, such as --seed 7, go to every run.
 set -e
 cd "$(dirname "$0")/../.."
 
@@ -34,7 +34,7 @@ while read -r number name text; do
     status=0
     case "$name" in
     BEHIND_*)
-        valgrind --quiet --error-exitcode=3 --exit-on-first-error=yes "$work/runner" --calls 300 >"$work/log" 2>&1 || status=$?
+        valgrind --quiet --error-exitcode=3 --exit-on-first-error=yes "$work/runner" --calls 300 "$@" >"$work/log" 2>&1 || status=$?
         if [ "$status" -eq 3 ] && grep -q "Invalid read" "$work/log"; then
             echo "fault $number ($text): found by valgrind"
             found=$((found + 1))
@@ -45,7 +45,7 @@ while read -r number name text; do
         continue
         ;;
     esac
-    "$work/runner" --calls "$calls" >"$work/log" 2>&1 || status=$?
+    "$work/runner" --calls "$calls" "$@" >"$work/log" 2>&1 || status=$?
     call=$(sed -n 's/^difference at call \([0-9]*\): .*/\1/p' "$work/log")
     what=$(sed -n 's/^difference at call [0-9]*: //p' "$work/log")
     if [ "$status" -eq 1 ] && [ -n "$call" ]; then
