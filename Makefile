@@ -3,6 +3,7 @@
 # make test      all tests, as tests/run.sh has them
 # make test-decoder  compare the proved decoder with GNU objdump, on about a million strings
 # make test-machine  compare the proved machine with the model in Python, on 20,000 random calls
+# make test-host, test-valgrind, test-faults  compare the C library with a model in C; tests/host/rules.mk says how
 # make clean     remove build/; what rt made is in target/
 
 CC = gcc
@@ -54,6 +55,8 @@ test-decoder:
 test-machine:
 	rt check scenarios
 	python3 tests/scenarios.py --random 20000 1
+
+include tests/host/rules.mk
 
 clean:
 	rm -rf build

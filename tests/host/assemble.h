@@ -1,0 +1,18 @@
+/* Instruction strings and the registers that make their operands come out: the way forward, where decode.h is the way back. */
+#ifndef ASSEMBLE_H
+#define ASSEMBLE_H
+
+#include "trial.h"
+
+/* A use of a handle at target, in a random form of operand. */
+void assemble_use(struct trial *t, enum form form, unsigned block, uint64_t target);
+/* LOADIWKEY and ENCODEKEY */
+void assemble_registers(struct trial *t, enum form form, unsigned reg, unsigned rm);
+
+/* Sets registers, RIP or displacement so that the operand is at target. If this operand cannot reach it, false, and nothing changes. */
+bool aim(struct trial *t, uint64_t target);
+
+/* F0 before the instruction; the address of a RIP-relative operand moves with it */
+void put_lock(struct trial *t);
+
+#endif

@@ -1,0 +1,203 @@
+#include "compare.h"
+
+#include <inttypes.h>
+#include <stdio.h>
+#include <stdlib.h>
+#include <string.h>
+
+#include "faults.h"
+#include "keylocker.h"
+#include "machine.h"
+#include "spoil.h"
+
+const uint64_t VALUE_BEFORE = UINT64_C(0xA5C3960F1E2D4B78);
+
+const char *const call_names[CALL_KINDS] = {"power-on", "step", "read", "write", "settle", "sleep", "reset"};
+
+/* A buffer of exactly its length, so that valgrind sees any access behind it. Of no bytes it is a null pointer or an empty allocation. */
+static struct buffer exact_copy(const struct trial *t, struct buffer from)
+{
+    struct buffer copy = {NULL, from.length};
+    if (from.length == 0 && t->null_if_empty)
+        return copy;
+    copy.bytes = malloc(from.length);
+    if (!copy.bytes)
+        abort();
+    memcpy(copy.bytes, from.bytes, from.length);
+    return copy;
+}
+
+static void copy_lent(const struct trial *t, struct run *run)
+{
+    run->call = t->call;
+    run->machine = exact_copy(t, t->machine);
+    run->call.cpu = exact_copy(t, t->call.cpu);
+    run->value = malloc(sizeof *run->value);
+    if (!run->value)
+        abort();
+    *run->value = VALUE_BEFORE;
+}
+
+static uint32_t library_call(struct run *r)
+{
+    const struct call *c = &r->call;
+    switch (c->kind) {
+    case POWER_ON:
+        return keylocker_power_on(r->machine.bytes, r->machine.length, c->count, c->features);
+    case STEP:
+        return keylocker_step(r->machine.bytes, r->machine.length, c->processor, c->cpu.bytes, c->cpu.length, c->memory.bytes, c->memory.length,
+                              c->random.bytes, c->random.length, c->string.bytes, c->string.length);
+    case READ:
+        return keylocker_read(r->machine.bytes, r->machine.length, c->processor, c->cpl, c->address, r->value);
+    case WRITE:
+        return keylocker_write(r->machine.bytes, r->machine.length, c->processor, c->cpl, c->address, c->value);
+    case SETTLE:
+        return keylocker_settle(r->machine.bytes, r->machine.length, c->code);
+    case SLEEP:
+        return keylocker_sleep(r->machine.bytes, r->machine.length, c->code);
+    default:
+        return keylocker_reset(r->machine.bytes, r->machine.length);
+    }
+}
+
+/* What the comparison and valgrind have to see, done in the library's stead. */
+static void misuse(struct run *r)
+{
+    struct call *c = &r->call;
+    volatile uint8_t behind = 0;
+    if (FAULT(MEMORY_WRITTEN) && c->memory.length)
+        c->memory.bytes[c->memory.length - 1] ^= 1;
+    if (FAULT(RANDOM_WRITTEN) && c->random.length)
+        c->random.bytes[0] ^= 1;
+    if (FAULT(STRING_WRITTEN) && c->string.length)
+        c->string.bytes[c->string.length - 1] ^= 1;
+    if (FAULT(REFUSED_WRITES_MACHINE) && r->number && r->machine.length)
+        r->machine.bytes[r->machine.length - 1] ^= 1;
+    if (FAULT(REFUSED_WRITES_CPU) && r->number && c->cpu.length)
+        c->cpu.bytes[c->cpu.length - 1] ^= 1;
+    if (FAULT(REFUSED_WRITES_VALUE) && r->number)
+        *r->value = 0;
+    if (FAULT(BEHIND_MACHINE) && r->machine.bytes)
+        behind = r->machine.bytes[r->machine.length];
+    if (FAULT(BEHIND_CPU) && c->cpu.bytes)
+        behind = c->cpu.bytes[c->cpu.length];
+    if (FAULT(BEHIND_MEMORY) && c->memory.bytes)
+        behind = c->memory.bytes[c->memory.length];
+    if (FAULT(BEHIND_RANDOM) && c->random.bytes)
+        behind = c->random.bytes[c->random.length];
+    if (FAULT(BEHIND_STRING) && c->string.bytes)
+        behind = c->string.bytes[c->string.length];
+    (void)behind;
+}
+
+void run_library(const struct trial *t, struct run *run)
+{
+    copy_lent(t, run);
+    run->call.memory = exact_copy(t, t->call.memory);
+    run->call.random = exact_copy(t, t->call.random);
+    run->call.string = exact_copy(t, t->call.string);
+    run->number = library_call(run);
+    if (FAULTY)
+        misuse(run);
+}
+
+/* The model only reads memory, random data and string: it is lent the trial's own. */
+void run_model(const struct trial *t, struct run *run)
+{
+    copy_lent(t, run);
+    run->number = model_call(run->machine, &run->call, run->value);
+    run->call.memory.bytes = run->call.random.bytes = run->call.string.bytes = NULL;
+}
+
+void run_free(struct run *run)
+{
+    free(run->machine.bytes);
+    free(run->call.cpu.bytes);
+    free(run->call.memory.bytes);
+    free(run->call.random.bytes);
+    free(run->call.string.bytes);
+    free(run->value);
+}
+
+static bool same(struct buffer a, struct buffer b)
+{
+    return a.length == b.length && (a.length == 0 || memcmp(a.bytes, b.bytes, a.length) == 0);
+}
+
+const char *difference(const struct trial *t, const struct run *library, const struct run *model)
+{
+    if (library->number != model->number)
+        return "number";
+    if (!same(library->machine, model->machine))
+        return "machine";
+    if (!same(library->call.cpu, model->call.cpu))
+        return "CPU record";
+    if (*library->value != *model->value)
+        return "value";
+    if (!same(library->call.memory, t->call.memory) || !same(library->call.random, t->call.random) || !same(library->call.string, t->call.string))
+        return "memory, random data or string written";
+    if (library->number && (!same(library->machine, t->machine) || !same(library->call.cpu, t->call.cpu) || *library->value != VALUE_BEFORE))
+        return "a refused call wrote";
+    if (t->call.kind == READ && !same(library->machine, t->machine))
+        return "a read wrote the machine";
+    if (t->meant != ANY_NUMBER && library->number != t->meant)
+        return "not the number that the call was made for";
+    return NULL;
+}
+
+/* ---- reports ---- */
+
+static void print_buffer(const char *name, struct buffer buffer)
+{
+    printf("  %s (%zu bytes)", name, buffer.length);
+    for (size_t i = 0; i < buffer.length; i++) {
+        if (buffer.length > 1200 && i == 512) {
+            printf("\n    ...");
+            i = buffer.length - 512;
+        }
+        printf(i % 48 == 0 ? "\n    %02x" : "%02x", buffer.bytes[i]);
+    }
+    printf("\n");
+}
+
+static void print_first_difference(const char *name, struct buffer before, struct buffer library, struct buffer model)
+{
+    for (size_t i = 0; i < library.length; i++)
+        if (library.bytes[i] != model.bytes[i]) {
+            printf("  %s: first difference at byte %zu: before %02x, library %02x, model %02x\n", name, i, before.bytes[i], library.bytes[i],
+                   model.bytes[i]);
+            print_buffer("after, library", library);
+            print_buffer("after, model", model);
+            return;
+        }
+}
+
+static void print_arguments(const struct trial *t)
+{
+    const struct call *c = &t->call;
+    printf("  machine %u%s%s\n", t->machine_number, t->carried ? "" : ", on a copy", t->made ? ", record made by hand" : "");
+    for (int i = 0; i < 2; i++)
+        if (t->spoils[i] >= 0)
+            printf("  spoiled: %s (%u)\n", spoils[t->spoils[i]].reason, spoils[t->spoils[i]].number);
+    printf("  count %u, features 0x%02x, processor %u, cpl %u, ", c->count, c->features, c->processor, c->cpl);
+    printf("address 0x%" PRIx32 ", value 0x%" PRIx64 ", code %u\n", c->address, c->value, c->code);
+    print_buffer("machine", t->machine);
+    if (c->kind != STEP)
+        return;
+    print_buffer("CPU record", c->cpu);
+    print_buffer("memory", c->memory);
+    print_buffer("random data", c->random);
+    print_buffer("string", c->string);
+}
+
+void report(const struct trial *t, const struct run *library, const struct run *model)
+{
+    printf("call: %s\n", call_names[t->call.kind]);
+    print_arguments(t);
+    printf("  number: library %u, model %u", library->number, model->number);
+    if (t->meant != ANY_NUMBER)
+        printf(", meant %u", t->meant);
+    printf("\n  value: library 0x%" PRIx64 ", model 0x%" PRIx64 "\n", *library->value, *model->value);
+    print_first_difference("machine", t->machine, library->machine, model->machine);
+    print_first_difference("CPU record", t->call.cpu, library->call.cpu, model->call.cpu);
+}

@@ -1,0 +1,30 @@
+/* One call on the library and on the model, and what must be alike. */
+#ifndef COMPARE_H
+#define COMPARE_H
+
+#include "trial.h"
+
+/* a call's buffers and results; the library's have exactly their lengths */
+struct run {
+    struct buffer machine;
+    struct call call;
+    uint64_t *value;
+    uint32_t number;
+};
+
+/* what the place lent for a read's value holds before */
+extern const uint64_t VALUE_BEFORE;
+
+void run_library(const struct trial *t, struct run *run);
+void run_model(const struct trial *t, struct run *run);
+void run_free(struct run *run);
+
+/* NULL if library and model agree and a refused call left everything; otherwise what differs. */
+const char *difference(const struct trial *t, const struct run *library, const struct run *model);
+
+/* all that is needed to look into a difference */
+void report(const struct trial *t, const struct run *library, const struct run *model);
+
+extern const char *const call_names[CALL_KINDS];
+
+#endif

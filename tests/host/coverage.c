@@ -1,0 +1,372 @@
+#include "coverage.h"
+
+#include <stdio.h>
+#include <string.h>
+
+#include "refusals.h"
+#include "spoil.h"
+
+/* "must": each occurs in every long run */
+#define EVENTS(X)                                                                     \
+    X(LOAD_0, "LOADIWKEY, key source 0")                                              \
+    X(LOAD_0_RANDOM, "LOADIWKEY, key source 0 with random data lent")                 \
+    X(LOAD_1, "LOADIWKEY, key source 1")                                              \
+    X(LOAD_NOT_READY, "LOADIWKEY, not ready")                                         \
+    X(LOAD_NO_BACKUP, "LOADIWKEY, NoBackup")                                          \
+    X(LOAD_NO_FIRMWARE, "LOADIWKEY without the firmware bit")                         \
+    X(ENCODE_128, "ENCODEKEY128")                                                     \
+    X(ENCODE_256, "ENCODEKEY256")                                                     \
+    X(ENCODE_CPL_3, "encode for CPL 0 only, at CPL 3")                                \
+    X(ENCODE_ALIKE, "encode with destination and source alike")                       \
+    X(COPY_OUT_WORKED, "copy out worked")                                             \
+    X(COPY_OUT_AGAIN, "copy out worked over an earlier backup")                       \
+    X(COPY_OUT_NO_BACKUP, "copy out failed, NoBackup")                                \
+    X(COPY_OUT_PENDING, "copy out failed, pending")                                   \
+    X(COPY_IN_WORKED, "copy in worked")                                               \
+    X(COPY_IN_OVER_KEY, "copy in worked over another key")                            \
+    X(COPY_IN_PENDING, "copy in worked while pending")                                \
+    X(COPY_IN_FAILED, "copy in failed, no backup")                                    \
+    X(COPY_IN_FAILED_STATUS, "copy in failed, copy status was 1")                     \
+    X(WRITE_0, "0 written with copy status 1")                                        \
+    X(READ_STATUS_0, "copy status read, 0")                                           \
+    X(READ_STATUS_1, "copy status read, 1")                                           \
+    X(READ_VALID, "backup status read with valid")                                    \
+    X(READ_ERROR, "backup status read with error")                                    \
+    X(READ_CONSUMED, "backup status read with consumed")                              \
+    X(SETTLE_GOOD, "settle good, pending")                                            \
+    X(SETTLE_BAD, "settle bad, pending")                                              \
+    X(SETTLE_GOOD_IDLE, "settle good, nothing pending")                               \
+    X(SETTLE_BAD_IDLE, "settle bad, nothing pending")                                 \
+    X(SETTLE_NO_BACKUP, "settle good, pending without a backup")                      \
+    X(SLEEP_OLD_PENDING, "sleep, pending, old")                                       \
+    X(SLEEP_NEW_PENDING, "sleep, pending, new")                                       \
+    X(SLEEP_JUNK_PENDING, "sleep, pending, junk")                                     \
+    X(SLEEP_OLD, "sleep, nothing pending, old")                                       \
+    X(SLEEP_NEW, "sleep, nothing pending, new")                                       \
+    X(SLEEP_JUNK, "sleep, nothing pending, junk")                                     \
+    X(SLEEP_NO_BACKUP, "sleep, pending without a backup, new")                        \
+    X(SLEEP_AFTER_BAD, "sleep with a backup and no store")                            \
+    X(RESET_BACKUP, "reset with a backup")                                            \
+    X(PLATFORM_NO_FEATURES, "settle, sleep or reset without KL or backup feature")    \
+    X(POWER_ON_BAD_RECORD, "power-on over a record that refusal 1 names")             \
+    X(MADE_RECORD, "calls on a record just made by hand")                             \
+    X(MEMORY_FULL, "steps with 1,048,576 bytes of memory")                            \
+    X(MEMORY_NONE, "steps without memory")                                            \
+    X(STRING_NONE, "steps without a string")                                          \
+    X(NULL_POINTER, "null pointers for empty buffers")                                \
+    X(EMPTY_BUFFER, "empty buffers that are no null pointers")                        \
+    X(WIDE_REX_R, "wide uses with REX.R")                                             \
+    X(LAST_CANONICAL, "handles that end with the last byte of the lower half")        \
+    X(OVER_THE_TOP, "handles that run over the top of the number range")              \
+    X(SAME_NAME_ALLOWED, "demand 3: same name, allowed")                              \
+    X(SAME_NAME_SIZE, "demand 3: same name, key size forbids")                        \
+    X(SAME_NAME_PRIVILEGE, "demand 3: same name, privilege forbids")                  \
+    X(SAME_NAME_DIRECTION, "demand 3: same name, direction forbids")                  \
+    X(SAME_NAME_PROCESSOR, "demand 3: same name, on another processor")               \
+    X(SAME_NAME_SLEPT, "demand 3: same name, loaded and encoded before a sleep")      \
+    X(NAME_0_AGAIN, "demand 3: name 0 before and after a sleep or reset")
+
+enum event {
+#define EVENT(name, text) EVENT_##name,
+    EVENTS(EVENT)
+#undef EVENT
+    EVENT_COUNT
+};
+
+static const char *const event_texts[] = {
+#define EVENT(name, text) text,
+    EVENTS(EVENT)
+#undef EVENT
+};
+static const char *const origin_texts[] = {
+#define ORIGIN(name, text) text,
+    HANDLE_ORIGINS(ORIGIN)
+#undef ORIGIN
+};
+static const char *const shape_texts[] = {
+#define SHAPE(name, text) text,
+    OPERAND_SHAPES(SHAPE)
+#undef SHAPE
+};
+static const char *const use_texts[] = {"AESENC128KL",     "AESDEC128KL",     "AESENC256KL",     "AESDEC256KL",
+                                        "AESENCWIDE128KL", "AESDECWIDE128KL", "AESENCWIDE256KL", "AESDECWIDE256KL"};
+
+enum { SPOILS_MOST = 128 };
+static unsigned long numbers[CALL_KINDS][NUMBERS], events[EVENT_COUNT], uses[USE_FORMS][2], origins[ORIGINS][2], shapes[SHAPES][2];
+static unsigned long spoiled_alone[SPOILS_MOST], spoiled_first[SPOILS_MOST], orders[NUMBERS][NUMBERS];
+
+/* Which refusals a kind of call meets ("a check that a call has no operand for is skipped"). */
+static bool meets(enum call_kind kind, unsigned number)
+{
+    switch (kind) {
+    case STEP:
+        return number != R2_CODE;
+    case READ:
+    case WRITE:
+        return number <= R1_MACHINE || number == R3_PROCESSOR || number == R5_CPU || number == R12_GP;
+    case SETTLE:
+    case SLEEP:
+        return number <= R2_CODE;
+    default:
+        return number <= R1_MACHINE;
+    }
+}
+
+/* Two refusals that one call can meet and that can be told apart by their order. No call meets both 2 and a later one; what cuts a string may cut
+ * the byte of 8 away; a handle is in one segment. */
+static bool has_order(unsigned low, unsigned high)
+{
+    if (low == 0 || low >= high || low == R2_CODE || (high == R2_CODE && low != R1_MACHINE))
+        return false;
+    return !(low == R8_BYTE && high == R9_STRING_ENDS) && !(low == R12_GP && high == R13_SS);
+}
+
+static void note(bool occurred, enum event event)
+{
+    events[event] += occurred;
+}
+
+static void cover_load(const struct trial *t, const struct cpu *before, const struct cpu *after)
+{
+    const struct machine *m = (const struct machine *)t->machine.bytes;
+    bool source = before->registers[RAX][0] & 2, failed = load64(after->rflags) & ZF;
+    note(!source, EVENT_LOAD_0);
+    note(!source && t->call.random.length, EVENT_LOAD_0_RANDOM);
+    note(source && !failed, EVENT_LOAD_1);
+    note(failed, EVENT_LOAD_NOT_READY);
+    note(!failed && before->registers[RAX][0] & 1, EVENT_LOAD_NO_BACKUP);
+    note(!(m->features & F_FIRMWARE), EVENT_LOAD_NO_FIRMWARE);
+}
+
+static void cover_encode(const struct cpu *before, const struct instruction *instruction)
+{
+    note(instruction->form == ENCODEKEY128, EVENT_ENCODE_128);
+    note(instruction->form == ENCODEKEY256, EVENT_ENCODE_256);
+    note(before->cpl == 3 && before->registers[instruction->rm][0] & 1, EVENT_ENCODE_CPL_3);
+    note(instruction->reg == instruction->rm, EVENT_ENCODE_ALIKE);
+}
+
+static void cover_use(const struct trial *t, const struct cpu *after, const struct instruction *instruction)
+{
+    bool failed = load64(after->rflags) & ZF;
+    uses[instruction->form][failed]++;
+    if (t->meant_string) {
+        origins[t->origin][failed]++;
+        shapes[t->operand.shape][failed]++;
+        note(is_wide(instruction->form) && instruction->reg > 7, EVENT_WIDE_REX_R);
+    }
+}
+
+static void cover_refused_use(const struct trial *t, uint32_t number)
+{
+    uint64_t end = t->target + handle_length(t->form);
+    if (!t->meant_string || number != R14_PF)
+        return;
+    note(end == UINT64_C(0x800000000000), EVENT_LAST_CANONICAL);
+    note(end != 0 && end < handle_length(t->form), EVENT_OVER_THE_TOP);
+}
+
+static void cover_step(const struct trial *t, const struct run *library)
+{
+    const struct cpu *before = (const struct cpu *)t->call.cpu.bytes, *after = (const struct cpu *)library->call.cpu.bytes;
+    struct instruction instruction;
+    note(t->call.string.length == 0, EVENT_STRING_NONE);
+    if (library->number) {
+        cover_refused_use(t, library->number);
+        return;
+    }
+    note(t->call.memory.length == MEMORY_LIMIT, EVENT_MEMORY_FULL);
+    note(t->call.memory.length == 0, EVENT_MEMORY_NONE);
+    if (decode(t->call.string, &instruction))
+        return;
+    if (instruction.form == LOADIWKEY)
+        cover_load(t, before, after);
+    else if (is_use(instruction.form))
+        cover_use(t, after, &instruction);
+    else
+        cover_encode(before, &instruction);
+}
+
+static void cover_write(const struct trial *t, const struct machine *before, const struct machine *after)
+{
+    const struct processor *processor = &before->processors[t->call.processor];
+    bool worked = after->processors[t->call.processor].copy_status, out = t->call.address == COPY_OUT;
+    if (t->call.value == 0) {
+        note(processor->copy_status, EVENT_WRITE_0);
+        return;
+    }
+    note(out && worked, EVENT_COPY_OUT_WORKED);
+    note(out && worked && before->backup.present, EVENT_COPY_OUT_AGAIN);
+    note(out && processor->iwkey.no_backup && !before->pending, EVENT_COPY_OUT_NO_BACKUP);
+    note(out && !processor->iwkey.no_backup && before->pending, EVENT_COPY_OUT_PENDING);
+    note(!out && worked, EVENT_COPY_IN_WORKED);
+    note(!out && worked && memcmp(&processor->iwkey, &before->backup.iwkey, sizeof processor->iwkey) != 0, EVENT_COPY_IN_OVER_KEY);
+    note(!out && worked && before->pending, EVENT_COPY_IN_PENDING);
+    note(!out && !worked, EVENT_COPY_IN_FAILED);
+    note(!out && !worked && processor->copy_status, EVENT_COPY_IN_FAILED_STATUS);
+}
+
+static void cover_read(const struct trial *t, uint64_t value)
+{
+    bool copy = t->call.address == COPY_STATUS;
+    note(copy && value == 0, EVENT_READ_STATUS_0);
+    note(copy && value == 1, EVENT_READ_STATUS_1);
+    note(!copy && value & 1, EVENT_READ_VALID);
+    note(!copy && value & 4, EVENT_READ_ERROR);
+    note(!copy && value & 8, EVENT_READ_CONSUMED);
+}
+
+static void cover_platform(const struct trial *t, const struct machine *before)
+{
+    if (t->call.kind == SETTLE) {
+        note(true, (before->pending ? EVENT_SETTLE_GOOD : EVENT_SETTLE_GOOD_IDLE) + t->call.code);
+        note(before->pending && !before->backup.present && t->call.code == 0, EVENT_SETTLE_NO_BACKUP);
+    }
+    if (t->call.kind == SLEEP) {
+        note(true, (before->pending ? EVENT_SLEEP_OLD_PENDING : EVENT_SLEEP_OLD) + t->call.code);
+        note(before->pending && !before->backup.present && t->call.code == 1, EVENT_SLEEP_NO_BACKUP);
+        note(!before->pending && before->backup.present && !before->store.present, EVENT_SLEEP_AFTER_BAD);
+    }
+    note(t->call.kind == RESET && before->backup.present, EVENT_RESET_BACKUP);
+    note(t->call.kind != STEP && (before->features & (F_KL | F_BACKUP)) != (F_KL | F_BACKUP), EVENT_PLATFORM_NO_FEATURES);
+}
+
+static void cover_spoils(const struct trial *t)
+{
+    if (t->meant == ANY_NUMBER || t->spoils[0] < 0)
+        return;
+    (t->spoils[1] < 0 ? spoiled_alone : spoiled_first)[t->spoils[0]]++;
+    if (t->spoils[1] >= 0)
+        orders[spoils[t->spoils[0]].number][spoils[t->spoils[1]].number]++;
+}
+
+static void note_empty(const struct trial *t)
+{
+    const struct call *c = &t->call;
+    bool empty = t->machine.length == 0 || (c->kind == STEP && (!c->cpu.length || !c->memory.length || !c->random.length || !c->string.length));
+    note(empty && t->null_if_empty, EVENT_NULL_POINTER);
+    note(empty && !t->null_if_empty, EVENT_EMPTY_BUFFER);
+}
+
+void cover_call(const struct trial *t, const struct run *library)
+{
+    const struct machine *before = (const struct machine *)t->machine.bytes, *after = (const struct machine *)library->machine.bytes;
+    numbers[t->call.kind][library->number]++;
+    cover_spoils(t);
+    note(t->made, EVENT_MADE_RECORD);
+    note_empty(t);
+    if (t->call.kind == STEP)
+        cover_step(t, library);
+    if (library->number)
+        return;
+    if (t->call.kind == POWER_ON)
+        note(machine_refused(t->machine), EVENT_POWER_ON_BAD_RECORD);
+    else if (t->call.kind == READ)
+        cover_read(t, *library->value);
+    else if (t->call.kind == WRITE)
+        cover_write(t, before, after);
+    else
+        cover_platform(t, before);
+}
+
+void cover_judged(const struct history *history, const struct trial *t, const struct judged *judged)
+{
+    const struct encode *encode = judged->encode;
+    bool slept = encode->call < history->last_sleep;
+    note(judged->size && judged->privilege && judged->direction, EVENT_SAME_NAME_ALLOWED);
+    note(!judged->size, EVENT_SAME_NAME_SIZE);
+    note(judged->size && !judged->privilege && judged->direction, EVENT_SAME_NAME_PRIVILEGE);
+    note(judged->size && judged->privilege && !judged->direction, EVENT_SAME_NAME_DIRECTION);
+    note(encode->processor != t->call.processor, EVENT_SAME_NAME_PROCESSOR);
+    note(slept && encode->name != 0, EVENT_SAME_NAME_SLEPT);
+    note(slept && encode->name == 0, EVENT_NAME_0_AGAIN);
+}
+
+static void print_pairs(const char *title, const char *const *texts, unsigned long (*pairs)[2], int count)
+{
+    printf("\n%-56s %10s %10s\n", title, "ZF 0", "ZF 1");
+    for (int i = 0; i < count; i++)
+        printf("  %-54s %10lu %10lu\n", texts[i], pairs[i][0], pairs[i][1]);
+}
+
+static void print_numbers(void)
+{
+    printf("\nanswers   ");
+    for (int number = 0; number < NUMBERS; number++)
+        printf("%7d", number);
+    for (int kind = 0; kind < CALL_KINDS; kind++) {
+        printf("\n%-10s", call_names[kind]);
+        for (unsigned number = 0; number < NUMBERS; number++)
+            if (meets((enum call_kind)kind, number))
+                printf("%7lu", numbers[kind][number]);
+            else
+                printf("%7s", "-");
+    }
+    printf("\n");
+}
+
+static void print_orders(void)
+{
+    printf("\ntwo refusals: the row's came before the column's\n          ");
+    for (int high = 2; high < NUMBERS; high++)
+        printf("%7d", high);
+    for (unsigned low = 1; low < NUMBERS - 1; low++) {
+        printf("\n%-10u", low);
+        for (unsigned high = 2; high < NUMBERS; high++)
+            if (has_order(low, high))
+                printf("%7lu", orders[low][high]);
+            else
+                printf("%7s", low < high ? "-" : "");
+    }
+    printf("\n");
+}
+
+void print_coverage(void)
+{
+    print_numbers();
+    print_orders();
+    print_pairs("uses", use_texts, uses, USE_FORMS);
+    print_pairs("uses of handles", origin_texts, origins, ORIGINS);
+    print_pairs("uses by operand", shape_texts, shapes, SHAPES);
+    printf("\n%-56s %10s %10s\n", "reasons of refusals", "alone", "first of 2");
+    for (int i = 0; i < spoil_count; i++)
+        printf("  %2u %-51s %10lu %10lu\n", spoils[i].number, spoils[i].reason, spoiled_alone[i], spoiled_first[i]);
+    printf("\nevents\n");
+    for (int i = 0; i < EVENT_COUNT; i++)
+        printf("  %-65s %10lu\n", event_texts[i], events[i]);
+}
+
+static bool need(unsigned long count, const char *what, const char *text)
+{
+    if (count == 0)
+        printf("never occurred: %s: %s\n", what, text);
+    return count != 0;
+}
+
+bool coverage_is_full(void)
+{
+    bool full = true;
+    for (int kind = 0; kind < CALL_KINDS; kind++)
+        for (unsigned number = 0; number < NUMBERS; number++) {
+            char text[32];
+            snprintf(text, sizeof text, "%s %u", call_names[kind], number);
+            full &= !meets((enum call_kind)kind, number) || need(numbers[kind][number], "answer", text);
+        }
+    for (unsigned low = 1; low < NUMBERS; low++)
+        for (unsigned high = 1; high < NUMBERS; high++) {
+            char text[32];
+            snprintf(text, sizeof text, "%u before %u", low, high);
+            full &= !has_order(low, high) || need(orders[low][high], "order", text);
+        }
+    for (int i = 0; i < USE_FORMS; i++)
+        full &= need(uses[i][0], "ZF 0", use_texts[i]) && need(uses[i][1], "ZF 1", use_texts[i]);
+    for (int i = 0; i < ORIGINS; i++)
+        full &= need(origins[i][i != HANDLE_FITTING && i != HANDLE_COUNTER_WRAPS], "handles", origin_texts[i]);
+    for (int i = 0; i < SHAPES; i++)
+        full &= need(shapes[i][0], "ZF 0 with operand", shape_texts[i]);
+    for (int i = 0; i < spoil_count; i++)
+        full &= need(spoiled_alone[i], "reason", spoils[i].reason);
+    for (int i = 0; i < EVENT_COUNT; i++)
+        full &= need(events[i], "event", event_texts[i]);
+    return full;
+}

@@ -1,0 +1,203 @@
+#include "decode.h"
+
+#include "faults.h"
+
+enum { BAD_BYTE = 8, STRING_ENDS = 9 };
+enum { REX_B = 1, REX_X = 2, REX_R = 4 };
+
+struct reader {
+    struct buffer string;
+    size_t at;
+};
+
+static uint32_t next(struct reader *reader, uint8_t *byte)
+{
+    if (reader->at == reader->string.length)
+        return STRING_ENDS;
+    *byte = reader->string.bytes[reader->at++];
+    return 0;
+}
+
+static uint32_t next_is(struct reader *reader, uint8_t wanted)
+{
+    uint8_t byte;
+    uint32_t refusal = next(reader, &byte);
+    return refusal ? refusal : byte != wanted ? BAD_BYTE : 0;
+}
+
+/* optional F0, F3, at most one REX byte, 0F 38 */
+static uint32_t read_prefixes(struct reader *reader, bool *lock, uint8_t *rex)
+{
+    uint8_t byte;
+    uint32_t refusal = next(reader, &byte);
+    *lock = !refusal && byte == 0xF0;
+    if (*lock)
+        refusal = next(reader, &byte);
+    if (refusal || byte != 0xF3)
+        return refusal ? refusal : BAD_BYTE;
+
+    *rex = 0;
+    refusal = next(reader, &byte);
+    for (bool more = true; more && !refusal && byte >> 4 == 4; more = FAULT(TWO_REX)) {
+        *rex = byte & 0x0F;
+        refusal = next(reader, &byte);
+    }
+    if (refusal || byte != 0x0F)
+        return refusal ? refusal : BAD_BYTE;
+    return next_is(reader, 0x38);
+}
+
+/* which instruction an opcode and the fields of its ModRM byte are; false if none */
+static bool find_form(uint8_t opcode, unsigned mod, unsigned reg, enum form *form)
+{
+    static const enum form wide[4] = {AESENCWIDE128KL, AESDECWIDE128KL, AESENCWIDE256KL, AESDECWIDE256KL};
+    switch (opcode) {
+    case 0xDC:
+        *form = mod == 3 ? LOADIWKEY : AESENC128KL;
+        return true;
+    case 0xDD:
+        *form = AESDEC128KL;
+        return mod != 3;
+    case 0xDE:
+        *form = AESENC256KL;
+        return mod != 3;
+    case 0xDF:
+        *form = AESDEC256KL;
+        return mod != 3;
+    case 0xD8:
+        *form = wide[reg & 3];
+        return mod != 3 && reg < 4;
+    case 0xFA:
+        *form = ENCODEKEY128;
+        return mod == 3;
+    default:
+        *form = ENCODEKEY256;
+        return mod == 3;
+    }
+}
+
+static bool is_opcode(uint8_t byte)
+{
+    return byte == 0xD8 || (byte >= 0xDC && byte <= 0xDF) || byte == 0xFA || byte == 0xFB;
+}
+
+/* 1 or 4 bytes, sign-extended */
+static uint32_t read_displacement(struct reader *reader, unsigned bytes, int64_t *displacement)
+{
+    uint8_t value[4] = {0};
+    for (unsigned i = 0; i < bytes; i++) {
+        uint32_t refusal = next(reader, &value[i]);
+        if (refusal)
+            return refusal;
+    }
+    if (bytes == 1)
+        *displacement = FAULT(DISP8_UNSIGNED) ? value[0] : (int8_t)value[0];
+    else
+        *displacement = FAULT(DISP32_UNSIGNED) ? (int64_t)load32(value) : (int32_t)load32(value);
+    return 0;
+}
+
+/* Intel's SIB rules: index 4 without REX.X is none, base 5 with mod 0 is none and has a displacement of four bytes */
+static uint32_t read_sib(struct reader *reader, uint8_t rex, unsigned mod, struct place *place)
+{
+    uint8_t sib;
+    uint32_t refusal = next(reader, &sib);
+    if (refusal)
+        return refusal;
+    place->scale = sib >> 6;
+    place->index = (sib >> 3 & 7) | (rex & REX_X ? 8 : 0);
+    if (place->index == RSP || (FAULT(REX_X_INDEX_4) && place->index == R12))
+        place->index = NO_REGISTER;
+    place->base = (sib & 7) | (rex & REX_B ? 8 : 0);
+    if (mod == 0 && (sib & 7) == 5 && !(FAULT(REX_B_WITHOUT_BASE) && rex & REX_B))
+        place->base = NO_REGISTER;
+    return 0;
+}
+
+/* Intel's 64-bit ModRM rules: r/m 4 has a SIB byte, r/m 5 with mod 0 is relative to RIP, both whatever REX.B is */
+static uint32_t read_place(struct reader *reader, uint8_t rex, unsigned mod, unsigned rm, struct place *place)
+{
+    bool four = mod == 2;
+    *place = (struct place){.base = rm | (rex & REX_B ? 8 : 0), .index = NO_REGISTER};
+    if (rm == 4) {
+        uint32_t refusal = read_sib(reader, rex, mod, place);
+        if (refusal)
+            return refusal;
+        four |= mod == 0 && (place->base == NO_REGISTER || (place->base & 7) == 5);
+    } else if (mod == 0 && rm == 5) {
+        place->rip_relative = !(FAULT(REX_B_RIP) && rex & REX_B);
+        if (place->rip_relative)
+            place->base = NO_REGISTER;
+        four = true;
+    }
+    return four ? read_displacement(reader, 4, &place->displacement) : mod == 1 ? read_displacement(reader, 1, &place->displacement) : 0;
+}
+
+uint32_t decode(struct buffer string, struct instruction *instruction)
+{
+    struct reader reader = {string, 0};
+    uint8_t rex, opcode, modrm;
+    uint32_t refusal = read_prefixes(&reader, &instruction->lock, &rex);
+    if (refusal || (refusal = next(&reader, &opcode)))
+        return refusal;
+    if (!is_opcode(opcode))
+        return BAD_BYTE;
+    if ((refusal = next(&reader, &modrm)))
+        return refusal;
+    unsigned mod = modrm >> 6, reg = modrm >> 3 & 7, rm = modrm & 7, high_reg = reg | (rex & REX_R ? 8 : 0);
+    bool known = find_form(opcode, mod, FAULT(REX_R_IN_WIDE) ? high_reg : reg, &instruction->form);
+    if (!known && !FAULT(OPERAND_TEST_LATE))
+        return BAD_BYTE;
+    instruction->reg = FAULT(REX_R_IGNORED) && is_use(instruction->form) ? reg : high_reg;
+    instruction->rm = rm | (rex & REX_B ? 8 : 0);
+    if (mod != 3 && (refusal = read_place(&reader, rex, mod, rm, &instruction->place)))
+        return refusal;
+    instruction->length = (unsigned)reader.at;
+    return known ? 0 : BAD_BYTE;
+}
+
+bool is_use(enum form form)
+{
+    return form < USE_FORMS;
+}
+
+bool is_wide(enum form form)
+{
+    return form >= AESENCWIDE128KL && form <= AESDECWIDE256KL;
+}
+
+bool is_decryption(enum form form)
+{
+    return form == AESDEC128KL || form == AESDEC256KL || form == AESDECWIDE128KL || form == AESDECWIDE256KL;
+}
+
+size_t key_length(enum form form)
+{
+    return form == AESENC128KL || form == AESDEC128KL || form == AESENCWIDE128KL || form == AESDECWIDE128KL || form == ENCODEKEY128 ? 16 : 32;
+}
+
+size_t handle_length(enum form form)
+{
+    return HANDLE_HEAD + key_length(form);
+}
+
+uint64_t effective_address(const struct instruction *instruction, const struct cpu *cpu)
+{
+    const struct place *place = &instruction->place;
+    uint64_t address = (uint64_t)place->displacement;
+    if (place->rip_relative)
+        address += load64(cpu->rip) + (FAULT(RIP_FROM_START) ? 0 : instruction->length);
+    if (place->base != NO_REGISTER)
+        address += load64(cpu->registers[place->base]);
+    if (place->index != NO_REGISTER)
+        address += load64(cpu->registers[place->index]) << place->scale;
+    return address;
+}
+
+/* RSP or RBP itself as base: not R12 or R13, which share their numbers, and not an index */
+bool in_stack_segment(const struct place *place)
+{
+    if (FAULT(R12_R13_STACK) && (place->base == R12 || place->base == R13))
+        return true;
+    return place->base == RSP || (place->base == RBP && !FAULT(RBP_NOT_STACK));
+}

@@ -1,0 +1,144 @@
+/* Faults planted in the model, one at a time, to show that the runner finds them: FAULT(name) is true only in a model compiled with
+ * -DFAULTY=n, where n is the place of that name in the list. The last ones stand around the library's call instead, as if the library misused
+ * what it was lent. tests/host/faults.sh builds and runs them all. */
+#ifndef FAULTS_H
+#define FAULTS_H
+
+#ifndef FAULTY
+#define FAULTY 0
+#endif
+
+#define FAULTS(X)                                                                                      \
+    /* AES and handles */                                                                              \
+    X(NO_MIDDLE_SUBWORD, "AES-256 key expansion without the SubWord in the middle of a key")           \
+    X(DECRYPTION_ENCRYPTS, "decryption encrypts")                                                      \
+    X(COUNTER_BIG_ENDIAN, "the keystream counter is big-endian")                                       \
+    X(COUNTER_CARRIES, "the keystream counter carries into byte 4")                                    \
+    X(COUNTER_TOP_BIT, "the first counter block keeps the tag's top bit")                              \
+    X(POLYVAL_TOP_BIT, "the top bit of POLYVAL is not cleared")                                        \
+    X(LENGTHS_EXCHANGED, "the length block has the key's length first")                                \
+    X(LENGTHS_IN_BYTES, "the length block counts bytes")                                               \
+    X(FIXED_HANDLE, "every key has the same tag and ciphertext")                                       \
+    X(KEY_AS_CIPHERTEXT, "the key itself is the ciphertext")                                           \
+    X(TAG_OF_15_BYTES, "the last byte of the tag is not compared")                                     \
+    X(TAG_TOP_BIT_IGNORED, "the top bit of the tag is not compared")                                   \
+    /* strings and addresses */                                                                        \
+    X(REX_R_IGNORED, "REX.R does not extend the block register")                                       \
+    X(REX_R_IN_WIDE, "REX.R counts in the wide forms")                                                 \
+    X(REX_X_INDEX_4, "index 4 means none with REX.X too")                                              \
+    X(REX_B_WITHOUT_BASE, "SIB base 5 with mod 0 and REX.B is R13")                                    \
+    X(REX_B_RIP, "r/m 5 with mod 0 and REX.B is R13")                                                  \
+    X(TWO_REX, "a second REX byte is taken")                                                           \
+    X(OPERAND_TEST_LATE, "a form that no instruction has is found only behind the displacement")       \
+    X(DISP8_UNSIGNED, "displacements of one byte are not sign-extended")                               \
+    X(DISP32_UNSIGNED, "displacements of four bytes are not sign-extended")                            \
+    X(RIP_FROM_START, "RIP-relative counts from the start of the instruction")                         \
+    X(RBP_NOT_STACK, "RBP as base is not in the stack segment")                                        \
+    X(R12_R13_STACK, "R12 and R13 as base are in the stack segment")                                   \
+    X(FIRST_BYTE_CANONICAL, "only the first byte of a handle is tested for being canonical")           \
+    X(CANONICAL_48, "48 bytes of a 64-byte handle are tested for being canonical")                     \
+    X(MEMORY_48, "48 bytes of a 64-byte handle are tested against memory")                             \
+    /* refusals */                                                                                     \
+    X(PAST_COUNT_UNREAD, "entries past the count may hold anything")                                   \
+    X(PAST_COUNT_STATUS, "the copy status of an entry past the count may be 1")                        \
+    X(ABSENT_IWKEY_UNREAD, "an absent IWKey may hold anything")                                        \
+    X(PRESENCE_ABOVE_1, "a presence byte above 1 is taken")                                            \
+    X(COUNT_17, "a count of 17 is taken at power-on")                                                  \
+    X(WAKE_CODE_3, "wake code 3 is taken")                                                             \
+    X(CONTROL_BITS_FREE, "bits 4 to 7 of the control byte may be set")                                 \
+    X(LAST_ZERO_FREE, "the last byte of the CPU record may be set")                                    \
+    X(MEMORY_LIMIT, "memory of 1,048,577 bytes is taken")                                              \
+    X(RANDOM_LENGTH, "random data of more than 48 bytes is taken")                                     \
+    X(CPU_BEFORE_PROCESSOR, "the CPU record is tested before the processor number")                    \
+    X(STRING_BEFORE_RANDOM, "the string is read before the random data's length is tested")            \
+    X(REGISTER_BEFORE_CPL, "a register's address is tested before the CPL argument")                   \
+    X(UD_ALWAYS, "#UD for everything")                                                                 \
+    X(NM_BEFORE_UD, "#NM is tested before #UD")                                                        \
+    X(FIRMWARE_FOR_LOAD, "LOADIWKEY needs the firmware bit")                                           \
+    X(PF_BEFORE_GP, "#PF is tested before #GP(0)")                                                     \
+    X(CPL0_ENCODE_REFUSED, "encoding for CPL 0 only is refused at CPL 3")                              \
+    X(SOURCE_OF_64_BITS, "all 64 bits of the encode source are tested")                                \
+    X(RAX_OF_64_BITS, "all 64 bits of RAX are tested by LOADIWKEY")                                    \
+    X(LOAD_AT_CPL_1, "LOADIWKEY is refused at CPL 3 only")                                             \
+    X(REGISTER_WITHOUT_KL, "backup registers need no KL feature")                                      \
+    X(REGISTER_BIT_63, "bits 63:32 of a written value are not tested")                                 \
+    /* instructions */                                                                                 \
+    X(RIP_ONLY, "instructions advance RIP and do no more")                                             \
+    X(RIP_STAYS_ON_FAILURE, "RIP stays where a handle does not open")                                  \
+    X(BLOCKS_ZEROED, "a use that fails zeroes its blocks")                                             \
+    X(NEVER_OPENED, "a use sets ZF without opening the handle")                                        \
+    X(ALWAYS_OPENED, "a use clears ZF where the handle does not open")                                 \
+    X(SEVENTH_FLAG, "DF is cleared with the six flags")                                                \
+    X(OF_KEPT, "OF is kept")                                                                           \
+    X(WIDE_SEVEN, "a wide form leaves XMM7")                                                           \
+    X(RESERVED_AAD, "reserved bits of the AAD are not looked at")                                      \
+    X(KEY_TYPE, "the key type of the AAD is not looked at")                                            \
+    X(DIRECTIONS_EXCHANGED, "no encryption and no decryption are exchanged")                           \
+    X(CPL0_ONLY_AT_3, "CPL 0 only is looked at only at CPL 3")                                         \
+    X(WRONG_PROCESSOR, "uses take the IWKey of processor 0")                                           \
+    X(XMM3_CLEARED, "ENCODEKEY128 clears XMM3")                                                        \
+    X(XMM6_KEPT, "ENCODEKEY leaves XMM6")                                                              \
+    X(DESTINATION_OF_32_BITS, "the upper half of the encode destination is kept")                      \
+    X(NO_BACKUP_FROM_FEATURES, "the encode destination has NoBackup from the features")                \
+    X(SOURCES_EXCHANGED, "SRC1 and SRC2 of LOADIWKEY are exchanged")                                   \
+    X(RANDOM_ORDER, "LOADIWKEY takes the first 16 random bytes for the integrity key")                 \
+    X(RANDOM_AT_SOURCE_0, "LOADIWKEY takes random bytes at key source 0")                              \
+    X(NOT_READY_LOADS, "LOADIWKEY loads although the random source is not ready")                      \
+    X(LOAD_CLEARS_STATUS, "LOADIWKEY clears the copy status")                                          \
+    /* backup, sleep, reset */                                                                         \
+    X(COPY_OUT_NO_BACKUP, "copies out although NoBackup is set")                                       \
+    X(COPY_OUT_PENDING, "copies out although a backup is pending")                                     \
+    X(STATUS_ON_FAILURE, "a copy that fails sets the copy status")                                     \
+    X(COPY_ONCE, "copies out only raise the status once there is a backup")                            \
+    X(COPY_IN_ONCE, "copies in only raise the status where the processor has a key")                   \
+    X(COPY_IN_PENDING, "copies in fail while a backup is pending")                                     \
+    X(COPY_OUT_KEEPS_VALID, "a copy out keeps valid")                                                  \
+    X(WRITE_0_CLEARS, "writing 0 clears the copy status")                                              \
+    X(ERROR_BIT_1, "error is read in bit 1")                                                           \
+    X(SETTLE_NOT_PENDING, "settle acts although nothing is pending")                                   \
+    X(BAD_SETTLE_KEEPS, "a bad settle keeps the store")                                                \
+    X(SLEEP_KEEPS_CONSUMED, "sleep keeps consumed")                                                    \
+    X(SLEEP_KEEPS_STATUS, "sleep keeps the copy statuses")                                             \
+    X(WAKE_NEW_IS_OLD, "wake code 1 gives the old store")                                              \
+    X(WAKE_OLD_IS_NEW, "wake code 0 gives the pending backup")                                         \
+    X(JUNK_KEEPS_VALID, "junk keeps valid")                                                            \
+    X(JUNK_ONLY_PENDING, "junk is no junk where nothing is pending")                                   \
+    X(WAKE_KEEPS_BACKUP, "sleep without pending keeps the backup after a bad settle")                  \
+    X(RESET_KEEPS_STORE, "reset keeps backup and store")                                               \
+    /* the history machine */                                                                          \
+    X(HISTORY_NOT_READY, "history: LOADIWKEY without random data makes a name")                        \
+    X(HISTORY_COPY_NO_BACKUP, "history: a name with NoBackup gets into the backup")                    \
+    X(HISTORY_BAD_SETTLE, "history: a bad settle keeps the store's name")                              \
+    X(HISTORY_SLEEP_KEEPS_NAMES, "history: sleep keeps the processors' names")                         \
+    X(HISTORY_PRIVILEGE, "history: CPL 0 only allows every CPL")                                       \
+    X(HISTORY_SIZE, "history: a 128 form may use a 64-byte handle")                                    \
+    /* lent buffers */                                                                                 \
+    X(MEMORY_WRITTEN, "memory is written")                                                             \
+    X(RANDOM_WRITTEN, "random data is written")                                                        \
+    X(STRING_WRITTEN, "the string is written")                                                         \
+    X(REFUSED_WRITES_MACHINE, "a refused call writes the machine")                                     \
+    X(REFUSED_WRITES_CPU, "a refused call writes the CPU record")                                      \
+    X(REFUSED_WRITES_VALUE, "a refused call writes the value")                                         \
+    /* seen only under valgrind */                                                                     \
+    X(BEHIND_MACHINE, "a byte behind the machine is read")                                             \
+    X(BEHIND_CPU, "a byte behind the CPU record is read")                                              \
+    X(BEHIND_MEMORY, "a byte behind memory is read")                                                   \
+    X(BEHIND_RANDOM, "a byte behind the random data is read")                                          \
+    X(BEHIND_STRING, "a byte behind the string is read")
+
+enum fault {
+    FAULT_NONE,
+#define FAULT_NUMBER(name, text) FAULT_##name,
+    FAULTS(FAULT_NUMBER)
+#undef FAULT_NUMBER
+    FAULT_END
+};
+
+#define FAULT(name) (FAULTY == FAULT_##name)
+
+/* which fault this program was built with, 0 for none; what it is */
+int planted_fault(void);
+const char *fault_name(int fault);
+const char *fault_text(int fault);
+
+#endif

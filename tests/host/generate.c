@@ -1,0 +1,355 @@
+#include "generate.h"
+
+#include <string.h>
+
+#include "assemble.h"
+#include "chance.h"
+#include "forge.h"
+#include "spoil.h"
+
+/* 64 bits of every kind: small, large, near the edges of canonical addresses and of the number range */
+static uint64_t interesting64(void)
+{
+    static const uint64_t edges[] = {0,          0x7FFFFFFFFFFF, 0x800000000000, UINT64_C(0xFFFF800000000000),
+                                     UINT64_MAX, MEMORY_LIMIT,   0x80000000,     0x100000000};
+    switch (below(4)) {
+    case 0:
+        return below(512);
+    case 1:
+        return edges[below(sizeof edges / sizeof *edges)] + below(129) - 64;
+    default:
+        return any64();
+    }
+}
+
+static uint8_t some_features(void)
+{
+    uint8_t features = F_ALL;
+    for (unsigned bit = 0; bit < 6; bit++)
+        if (one_in(8))
+            features &= (uint8_t)~(1 << bit);
+    return one_in(3) ? features : F_ALL;
+}
+
+static uint8_t some_count(void)
+{
+    return one_in(4) ? 16 : one_in(4) ? 1 : (uint8_t)(1 + below(16));
+}
+
+static uint8_t some_processor(const struct machine *m)
+{
+    return (uint8_t)below(one_in(3) ? m->count : m->count < 4 ? m->count : 4);
+}
+
+static bool has_key(const struct machine *m, uint8_t processor)
+{
+    static const struct iwkey zero;
+    return memcmp(&m->processors[processor].iwkey, &zero, sizeof zero) != 0;
+}
+
+/* rather one whose IWKey was loaded */
+static uint8_t some_loaded_processor(const struct machine *m)
+{
+    uint8_t processor = some_processor(m);
+    for (int tries = 0; tries < 3 && !has_key(m, processor); tries++)
+        processor = some_processor(m);
+    return processor;
+}
+
+static void make_iwkey(const struct world *world, struct iwkey *iwkey)
+{
+    memset(iwkey, 0, sizeof *iwkey);
+    if (one_in(6))
+        return;
+    if (world->known_count && one_in(2)) {
+        *iwkey = world->known[below(world->known_count)].iwkey;
+        return;
+    }
+    any_bytes(iwkey->integrity, sizeof iwkey->integrity);
+    any_bytes(iwkey->encryption, sizeof iwkey->encryption);
+    iwkey->source = one_in(2);
+    iwkey->no_backup = one_in(2);
+}
+
+/* Any record that refusal 1 does not name, also such as no list of calls reaches. */
+static void make_record(const struct world *world, struct machine *m)
+{
+    memset(m, 0, sizeof *m);
+    m->count = some_count();
+    m->features = some_features();
+    for (int i = 0; i < m->count; i++) {
+        make_iwkey(world, &m->processors[i].iwkey);
+        m->processors[i].copy_status = one_in(2);
+    }
+    if ((m->backup.present = one_in(2)))
+        make_iwkey(world, &m->backup.iwkey);
+    if ((m->store.present = one_in(2)))
+        make_iwkey(world, &m->store.iwkey);
+    m->pending = one_in(2);
+    m->valid = one_in(2);
+    m->error = one_in(2);
+    m->consumed = one_in(2);
+}
+
+static void choose_power_on(struct trial *t, unsigned number)
+{
+    bool steady = number % 2 == 0; /* these machines keep one long list, with every feature */
+    t->call.kind = POWER_ON;
+    t->call.count = number == 0 ? 3 : some_count();
+    t->call.features = steady ? F_ALL : some_features();
+    t->meant = 0;
+    if (one_in(2))
+        any_bytes(t->machine_room, sizeof(struct machine));
+}
+
+/* ---- steps ---- */
+
+static void choose_cpu(struct trial *t)
+{
+    struct cpu *cpu = trial_cpu(t);
+    any_bytes(cpu, sizeof *cpu);
+    for (int i = 0; i < 16; i++)
+        store64(cpu->registers[i], interesting64());
+    store64(cpu->rip, interesting64());
+    cpu->cpl = (uint8_t)below(4);
+    cpu->control = C_CR4_KL | C_OSFXSR;
+    memset(cpu->zeros, 0, sizeof cpu->zeros);
+    t->call.cpu.length = sizeof *cpu;
+    t->call.random.length = one_in(3) ? 0 : RANDOM_SIZE;
+    any_bytes(t->random_room, RANDOM_SIZE);
+    t->call.memory.length = below(200);
+    any_bytes(t->memory_room, t->call.memory.length);
+}
+
+/* the lower half of a register; the upper one is not looked at */
+static void set_low_half(struct cpu *cpu, unsigned number, uint32_t value)
+{
+    store32(cpu->registers[number], value);
+}
+
+/* keys and IWKeys repeat now and then: equal keys under different names */
+static void choose_key_registers(struct cpu *cpu)
+{
+    if (one_in(4))
+        memset(cpu->xmm, (int)below(3), sizeof cpu->xmm);
+}
+
+static void choose_encode(struct trial *t)
+{
+    struct cpu *cpu = trial_cpu(t);
+    unsigned source = (unsigned)below(16);
+    assemble_registers(t, one_in(2) ? ENCODEKEY128 : ENCODEKEY256, one_in(4) ? source : (unsigned)below(16), source);
+    choose_key_registers(cpu);
+    set_low_half(cpu, source, one_in(2) ? 0 : (uint32_t)below(8));
+    if (one_in(2))
+        any_bytes(cpu->registers[source] + 4, 4);
+}
+
+static void choose_load(struct trial *t)
+{
+    struct cpu *cpu = trial_cpu(t);
+    uint32_t no_backup = one_in(5), source = one_in(2);
+    assemble_registers(t, LOADIWKEY, (unsigned)below(16), (unsigned)below(16));
+    choose_key_registers(cpu);
+    set_low_half(cpu, RAX, no_backup | source << 1);
+    cpu->cpl = 0;
+}
+
+/* an encoded handle under the IWKey of the processor, or of a later one, and that processor */
+static const struct known_handle *find_fitting(const struct world *world, const struct machine *m, uint8_t *processor)
+{
+    size_t start = world->known_count ? below(world->known_count) : 0;
+    for (uint8_t tries = 0; tries < m->count; tries++) {
+        uint8_t candidate = (uint8_t)((*processor + tries) % m->count);
+        for (size_t i = 0; i < world->known_count; i++) {
+            const struct known_handle *known = &world->known[(start + i) % world->known_count];
+            if (memcmp(&known->iwkey, &m->processors[candidate].iwkey, sizeof known->iwkey) == 0) {
+                *processor = candidate;
+                return known;
+            }
+        }
+    }
+    return NULL;
+}
+
+static void choose_handle(const struct world *world, struct trial *t, struct known_handle *handle)
+{
+    static const enum handle_origin rare[] = {HANDLE_UNRELATED,    HANDLE_FLIPPED,    HANDLE_TOP_BIT,       HANDLE_TAG_ONLY,
+                                              HANDLE_RESERVED_BIT, HANDLE_WRONG_TYPE, HANDLE_COUNTER_WRAPS, HANDLE_JUNK};
+    const struct machine *m = trial_machine(t);
+    const struct known_handle *known = NULL;
+    t->origin = one_in(5) ? rare[below(sizeof rare / sizeof *rare)] : HANDLE_FITTING;
+    if (t->origin == HANDLE_UNRELATED && world->known_count)
+        known = &world->known[below(world->known_count)];
+    else if (t->origin < HANDLE_TAG_ONLY)
+        known = find_fitting(world, m, &t->call.processor);
+    if (!forge_handle(t->origin, &m->processors[t->call.processor].iwkey, known, handle)) {
+        t->origin = HANDLE_JUNK;
+        forge_handle(t->origin, &m->processors[t->call.processor].iwkey, NULL, handle);
+    }
+}
+
+/* Memory with the handle in it; says where. It may end with the handle, or with as much of it as the use reads. */
+static uint64_t place_handle(struct trial *t, const struct known_handle *handle, size_t read)
+{
+    size_t before = one_in(3) ? 0 : below(300), after = one_in(2) ? 0 : below(100);
+    if (one_in(600))
+        before = MEMORY_LIMIT - read - after;
+    t->call.memory.length = before + read + after;
+    any_bytes(t->memory_room + (before < 300 ? 0 : before - 300), read + after + (before < 300 ? before : 300));
+    memcpy(t->memory_room + before, handle->bytes, handle->length < read + after ? handle->length : read + after);
+    return before;
+}
+
+static enum form some_use(size_t handle_bytes)
+{
+    bool longer = (handle_bytes == HANDLE_MOST) != one_in(12);
+    return (enum form)((one_in(2) ? AESENCWIDE128KL : AESENC128KL) + 2 * longer + one_in(2));
+}
+
+static void choose_use(const struct world *world, struct trial *t)
+{
+    struct known_handle handle;
+    choose_handle(world, t, &handle);
+    enum form form = some_use(handle.length);
+    uint64_t at = place_handle(t, &handle, handle_length(form));
+    assemble_use(t, form, (unsigned)below(16), at);
+    if (one_in(2))
+        trial_cpu(t)->cpl = 0;
+}
+
+static void choose_step(const struct world *world, struct trial *t)
+{
+    t->call.kind = STEP;
+    choose_cpu(t);
+    unsigned choice = (unsigned)below(20);
+    t->call.processor = choice < 3 ? some_processor(trial_machine(t)) : some_loaded_processor(trial_machine(t));
+    if (choice < 3)
+        choose_load(t);
+    else if (choice < 7)
+        choose_encode(t);
+    else
+        choose_use(world, t);
+    t->meant = 0;
+}
+
+/* ---- the other calls ---- */
+
+static void choose_register(struct trial *t, bool write)
+{
+    t->call.kind = write ? WRITE : READ;
+    t->call.processor = some_processor(trial_machine(t));
+    t->call.cpl = 0;
+    t->call.address = write ? (one_in(2) ? COPY_OUT : COPY_IN) : one_in(2) ? COPY_STATUS : BACKUP_STATUS;
+    t->call.value = write && !one_in(10);
+    t->meant = 0;
+}
+
+static void choose_platform(struct trial *t, enum call_kind kind)
+{
+    t->call.kind = kind;
+    t->call.code = (uint8_t)below(kind == SLEEP ? 3 : 2);
+    t->meant = 0;
+}
+
+/* ---- strings and numbers that only the model can judge ---- */
+
+static void mutate_string(struct trial *t)
+{
+    for (uint64_t changes = 1 + below(3); changes > 0; changes--) {
+        size_t length = t->call.string.length, at = length ? below(length < 12 ? length : 12) : 0;
+        switch (below(4)) {
+        case 0:
+            t->call.string.length = at;
+            break;
+        case 1:
+            memmove(t->string_room + at + 1, t->string_room + at, length - at);
+            t->string_room[at] = (uint8_t)any64();
+            t->call.string.length++;
+            break;
+        default:
+            t->string_room[at] = one_in(2) ? (uint8_t)any64() : (uint8_t)(t->string_room[at] ^ 1 << below(8));
+        }
+    }
+}
+
+/* numbers without care for what they mean */
+static void mutate_numbers(struct trial *t)
+{
+    struct cpu *cpu = trial_cpu(t);
+    t->call.count = (uint8_t)below(20);
+    t->call.features = (uint8_t)below(one_in(2) ? 64 : 256);
+    t->call.processor = (uint8_t)below(20);
+    t->call.cpl = (uint8_t)below(6);
+    t->call.code = (uint8_t)below(5);
+    t->call.address = one_in(2) ? t->call.address ^ 1u << below(32) : (uint32_t)any64();
+    t->call.value = one_in(2) ? below(3) : UINT64_C(1) << below(64);
+    if (t->call.kind == STEP) {
+        cpu->control = (uint8_t)below(one_in(2) ? 16 : 32);
+        cpu->cpl = (uint8_t)below(5);
+        store64(cpu->registers[below(16)], interesting64());
+    }
+}
+
+static void mutate(struct trial *t)
+{
+    t->meant = ANY_NUMBER;
+    t->meant_string = false;
+    if (t->call.kind == STEP && !one_in(3))
+        mutate_string(t);
+    else
+        mutate_numbers(t);
+}
+
+static void choose_call(const struct world *world, struct trial *t)
+{
+    unsigned choice = (unsigned)below(1000);
+    if (choice < 670)
+        choose_step(world, t);
+    else if (choice < 840)
+        choose_register(t, true);
+    else if (choice < 900)
+        choose_register(t, false);
+    else if (choice < 965)
+        choose_platform(t, SETTLE);
+    else if (choice < 982)
+        choose_platform(t, SLEEP);
+    else if (choice < 986)
+        choose_platform(t, RESET);
+    else
+        choose_power_on(t, 1);
+}
+
+static void begin(const struct world *world, struct trial *t)
+{
+    t->machine_number = (unsigned)below(MACHINES);
+    memcpy(t->machine_room, &world->machines[t->machine_number].machine, sizeof(struct machine));
+    t->machine = (struct buffer){t->machine_room, sizeof(struct machine)};
+    t->call = (struct call){.cpu = {t->cpu_room, 0}, .memory = {t->memory_room, 0}, .random = {t->random_room, 0}, .string = {t->string_room, 0}};
+    t->null_if_empty = one_in(2);
+    t->carried = true;
+    t->made = t->meant_string = false;
+    t->spoils[0] = t->spoils[1] = -1;
+}
+
+void generate(const struct world *world, struct trial *t)
+{
+    begin(world, t);
+    if (trial_machine(t)->count == 0) {
+        choose_power_on(t, t->machine_number);
+        return;
+    }
+    if (t->machine_number == 3 && one_in(12)) {
+        make_record(world, trial_machine(t));
+        t->made = true;
+    }
+    choose_call(world, t);
+    if (t->call.kind == POWER_ON && t->machine_number % 2 == 0)
+        t->carried = false;
+    if (t->call.kind != POWER_ON && trial_machine(t)->features != F_ALL)
+        t->meant = ANY_NUMBER;
+    if (one_in(14))
+        mutate(t);
+    else if (one_in(4))
+        spoil(t);
+}

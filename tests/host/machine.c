@@ -1,0 +1,285 @@
+#include "machine.h"
+
+#include <string.h>
+
+#include "aes.h"
+#include "faults.h"
+#include "handle.h"
+#include "refusals.h"
+
+/* Power-on (house): IWKeys all zero, backup and store absent, all bits 0. */
+static void power_on(struct machine *m, uint8_t count, uint8_t features)
+{
+    memset(m, 0, sizeof *m);
+    m->count = count;
+    m->features = features;
+}
+
+/* ZF as given, the other five flags 0, all other bits of RFLAGS kept */
+static void set_flags(struct cpu *cpu, bool zf)
+{
+    uint64_t flags = load64(cpu->rflags);
+    flags &= ~(uint64_t)(CF | PF | AF | ZF | SF | (FAULT(OF_KEPT) ? 0 : OF) | (FAULT(SEVENTH_FLAG) ? DF : 0));
+    store64(cpu->rflags, flags | (zf ? ZF : 0));
+}
+
+static void encodekey(const struct machine *m, const struct iwkey *iwkey, struct cpu *cpu, const struct instruction *instruction)
+{
+    uint8_t aad[AAD_SIZE] = {0}, key[32], handle[HANDLE_MOST];
+    size_t length = key_length(instruction->form);
+    uint64_t kept = load64(cpu->registers[instruction->reg]) >> 32 << 32;
+    unsigned no_backup = FAULT(NO_BACKUP_FROM_FEATURES) ? (m->features & F_NO_BACKUP) != 0 : iwkey->no_backup;
+    aad[0] = cpu->registers[instruction->rm][0] & 7;
+    aad[3] = length == 32;
+    memcpy(key, cpu->xmm[0], 16);
+    memcpy(key + 16, cpu->xmm[1], 16);
+    wrap(iwkey, aad, key, length, handle);
+    memcpy(cpu->xmm, handle, HANDLE_HEAD + length);
+    if (FAULT(XMM3_CLEARED) && length == 16)
+        memset(cpu->xmm[3], 0, 16);
+    memset(cpu->xmm[4], 0, (FAULT(XMM6_KEPT) ? 2 : 3) * 16);
+    store64(cpu->registers[instruction->reg], (no_backup + 2 * iwkey->source) | (FAULT(DESTINATION_OF_32_BITS) ? kept : 0));
+    set_flags(cpu, false);
+}
+
+/* AAD bits 0 to 2: CPL 0 only, no encryption, no decryption; 27:24 key type; the rest reserved */
+static bool legal(const uint8_t aad[AAD_SIZE], enum form form, uint8_t cpl)
+{
+    unsigned type = key_length(form) == 32, forbidden = is_decryption(form) != FAULT(DIRECTIONS_EXCHANGED) ? 4 : 2;
+    bool reserved = (aad[0] & ~7) || aad[1] || aad[2] || aad[3] >> 4;
+    for (int i = 4; i < AAD_SIZE; i++)
+        reserved |= aad[i] != 0;
+    if (reserved && !FAULT(RESERVED_AAD))
+        return false;
+    if ((aad[3] & 15) != type && !FAULT(KEY_TYPE))
+        return false;
+    if (aad[0] & 1 && cpl > (FAULT(CPL0_ONLY_AT_3) ? 2 : 0))
+        return false;
+    return !(aad[0] & forbidden);
+}
+
+static void do_block(enum form form, const uint8_t *key, uint8_t block[16])
+{
+    if (is_decryption(form) && !FAULT(DECRYPTION_ENCRYPTS))
+        aes_decrypt(key, key_length(form), block, block);
+    else
+        aes_encrypt(key, key_length(form), block, block);
+}
+
+/* Only where unwrapping hands out a key is a block touched. Says whether it did. */
+static bool use_handle(const struct iwkey *iwkey, struct cpu *cpu, const uint8_t *memory, const struct instruction *instruction)
+{
+    enum form form = instruction->form;
+    const uint8_t *handle = memory + effective_address(instruction, cpu);
+    unsigned first = is_wide(form) ? 0 : instruction->reg, blocks = is_wide(form) ? (FAULT(WIDE_SEVEN) ? 7 : 8) : 1;
+    uint8_t key[32];
+    bool opened = !FAULT(NEVER_OPENED) && legal(handle, form, cpu->cpl) && unwrap(iwkey, handle, key_length(form), key);
+    set_flags(cpu, !opened && !FAULT(ALWAYS_OPENED));
+    for (unsigned i = first; i < first + blocks; i++) {
+        if (opened)
+            do_block(form, key, cpu->xmm[i]);
+        else if (FAULT(BLOCKS_ZEROED))
+            memset(cpu->xmm[i], 0, 16);
+    }
+    return opened;
+}
+
+static unsigned asked_source(const struct cpu *cpu)
+{
+    return cpu->registers[RAX][0] >> 1 & 15;
+}
+
+bool not_ready(const struct cpu *cpu, struct buffer random)
+{
+    return asked_source(cpu) == 1 && random.length == 0;
+}
+
+/* Encryption key low half SRC2, high half SRC1; integrity key XMM0; random bytes in that order. */
+struct iwkey loaded_iwkey(const struct cpu *cpu, const struct instruction *instruction, const uint8_t *random)
+{
+    struct iwkey iwkey = {.source = (uint8_t)asked_source(cpu), .no_backup = cpu->registers[RAX][0] & 1};
+    unsigned low = FAULT(SOURCES_EXCHANGED) ? instruction->reg : instruction->rm, high = low == instruction->rm ? instruction->reg : instruction->rm;
+    memcpy(iwkey.encryption, cpu->xmm[low], 16);
+    memcpy(iwkey.encryption + 16, cpu->xmm[high], 16);
+    memcpy(iwkey.integrity, cpu->xmm[0], 16);
+    if (iwkey.source == 0 && !(FAULT(RANDOM_AT_SOURCE_0) && random))
+        return iwkey;
+    for (int i = 0; i < 16; i++) {
+        iwkey.encryption[i] ^= random[FAULT(RANDOM_ORDER) ? 16 + i : i];
+        iwkey.encryption[16 + i] ^= random[FAULT(RANDOM_ORDER) ? 32 + i : 16 + i];
+        iwkey.integrity[i] ^= random[FAULT(RANDOM_ORDER) ? i : 32 + i];
+    }
+    return iwkey;
+}
+
+static void loadiwkey(struct processor *processor, struct cpu *cpu, struct buffer random, const struct instruction *instruction)
+{
+    static const uint8_t none[RANDOM_SIZE];
+    bool refused = not_ready(cpu, random);
+    if (FAULT(LOAD_CLEARS_STATUS))
+        processor->copy_status = 0;
+    if (!refused)
+        processor->iwkey = loaded_iwkey(cpu, instruction, random.length ? random.bytes : NULL);
+    else if (FAULT(NOT_READY_LOADS))
+        processor->iwkey = loaded_iwkey(cpu, instruction, none);
+    set_flags(cpu, refused);
+}
+
+static void step(struct machine *m, struct call *call, const struct instruction *instruction)
+{
+    struct processor *processor = &m->processors[call->processor];
+    const struct iwkey *iwkey = FAULT(WRONG_PROCESSOR) ? &m->processors[0].iwkey : &processor->iwkey;
+    struct cpu cpu;
+    bool opened = true;
+    memcpy(&cpu, call->cpu.bytes, sizeof cpu);
+    if (FAULT(RIP_ONLY))
+        ;
+    else if (instruction->form == LOADIWKEY)
+        loadiwkey(processor, &cpu, call->random, instruction);
+    else if (is_use(instruction->form))
+        opened = use_handle(iwkey, &cpu, call->memory.bytes, instruction);
+    else
+        encodekey(m, &processor->iwkey, &cpu, instruction);
+    if (opened || !FAULT(RIP_STAYS_ON_FAILURE))
+        store64(cpu.rip, load64(cpu.rip) + instruction->length);
+    memcpy(call->cpu.bytes, &cpu, sizeof cpu);
+}
+
+/* write 0xD91 */
+static void copy_out(struct machine *m, struct processor *processor)
+{
+    bool held_back = processor->iwkey.no_backup && !FAULT(COPY_OUT_NO_BACKUP);
+    bool blocked = m->pending && !FAULT(COPY_OUT_PENDING);
+    processor->copy_status = (!held_back && !blocked) || FAULT(STATUS_ON_FAILURE);
+    if (held_back || blocked)
+        return;
+    if (!(FAULT(COPY_ONCE) && m->backup.present))
+        m->backup = (struct platform_key){1, processor->iwkey};
+    m->pending = 1;
+    m->valid = FAULT(COPY_OUT_KEEPS_VALID) ? m->valid : 0;
+    m->error = m->consumed = 0;
+}
+
+/* write 0xD92 */
+static void copy_in(const struct machine *m, struct processor *processor)
+{
+    static const struct iwkey none;
+    bool works = m->backup.present && !(FAULT(COPY_IN_PENDING) && m->pending);
+    bool moves = works && !(FAULT(COPY_IN_ONCE) && memcmp(&processor->iwkey, &none, sizeof none) != 0);
+    processor->copy_status = works || FAULT(STATUS_ON_FAILURE);
+    if (moves)
+        processor->iwkey = m->backup.iwkey;
+}
+
+static void write_register(struct machine *m, const struct call *call)
+{
+    struct processor *processor = &m->processors[call->processor];
+    if (FAULT(WRITE_0_CLEARS) && call->value == 0)
+        processor->copy_status = 0;
+    if (call->value == 0)
+        return;
+    if (call->address == COPY_OUT)
+        copy_out(m, processor);
+    else
+        copy_in(m, processor);
+}
+
+static uint64_t read_register(const struct machine *m, const struct call *call)
+{
+    if (call->address == COPY_STATUS)
+        return m->processors[call->processor].copy_status;
+    return (uint64_t)(m->valid | m->error << (FAULT(ERROR_BIT_1) ? 1 : 2) | m->consumed << 3);
+}
+
+static const struct platform_key absent;
+
+static void settle(struct machine *m, uint8_t code)
+{
+    if (!m->pending && !FAULT(SETTLE_NOT_PENDING))
+        return;
+    if (code == 0)
+        m->store = m->backup;
+    else if (!FAULT(BAD_SETTLE_KEEPS))
+        m->store = absent;
+    m->valid = code == 0;
+    m->error = code == 1;
+    m->consumed = 1;
+    m->pending = 0;
+}
+
+/* what the storage holds at the wake: 0 old, 1 new, 2 junk */
+static struct platform_key woken_store(const struct machine *m, uint8_t code)
+{
+    if (code == 2 && (m->pending || !FAULT(JUNK_ONLY_PENDING)))
+        return absent;
+    bool newer = FAULT(WAKE_NEW_IS_OLD) ? false : code == 1 || (FAULT(WAKE_OLD_IS_NEW) && code == 0);
+    return m->pending && newer ? m->backup : m->store;
+}
+
+static void sleep_and_wake(struct machine *m, uint8_t code)
+{
+    bool kept = FAULT(WAKE_KEEPS_BACKUP) && !m->pending && code < 2;
+    m->store = woken_store(m, code);
+    if (!kept)
+        m->backup = m->store;
+    m->error = code == 2;
+    m->valid = m->store.present || (FAULT(JUNK_KEEPS_VALID) && code == 2 && m->valid);
+    m->consumed = FAULT(SLEEP_KEEPS_CONSUMED) ? m->consumed : 0;
+    m->pending = 0;
+    for (int i = 0; i < m->count; i++) {
+        memset(&m->processors[i].iwkey, 0, sizeof m->processors[i].iwkey);
+        if (!FAULT(SLEEP_KEEPS_STATUS))
+            m->processors[i].copy_status = 0;
+    }
+}
+
+static void reset(struct machine *m)
+{
+    struct machine old = *m;
+    power_on(m, old.count, old.features);
+    if (FAULT(RESET_KEEPS_STORE)) {
+        m->backup = old.backup;
+        m->store = old.store;
+    }
+}
+
+static void perform(struct machine *m, struct call *call, const struct instruction *instruction, uint64_t *value)
+{
+    switch (call->kind) {
+    case POWER_ON:
+        power_on(m, call->count, call->features);
+        break;
+    case STEP:
+        step(m, call, instruction);
+        break;
+    case READ:
+        *value = read_register(m, call);
+        break;
+    case WRITE:
+        write_register(m, call);
+        break;
+    case SETTLE:
+        settle(m, call->code);
+        break;
+    case SLEEP:
+        sleep_and_wake(m, call->code);
+        break;
+    default:
+        reset(m);
+    }
+}
+
+uint32_t model_call(struct buffer machine, struct call *call, uint64_t *value)
+{
+    struct machine m;
+    struct instruction instruction = {0};
+    if (call->kind == POWER_ON ? power_on_refused(machine.length, call->count, call->features) : machine_refused(machine))
+        return R1_MACHINE;
+    memcpy(&m, machine.bytes, sizeof m);
+    uint32_t refusal = call->kind == POWER_ON ? DONE : call_refusal(m.count, m.features, call, &instruction);
+    if (refusal)
+        return refusal;
+    perform(&m, call, &instruction, value);
+    memcpy(machine.bytes, &m, sizeof m);
+    return DONE;
+}

@@ -1,0 +1,34 @@
+/* The scope's "Turned back, in checking order". */
+#ifndef REFUSALS_H
+#define REFUSALS_H
+
+#include "decode.h"
+#include "records.h"
+
+enum {
+    DONE,
+    R1_MACHINE,
+    R2_CODE,
+    R3_PROCESSOR,
+    R4_CPU_LENGTH,
+    R5_CPU,
+    R6_MEMORY,
+    R7_RANDOM,
+    R8_BYTE,
+    R9_STRING_ENDS,
+    R10_UD,
+    R11_NM,
+    R12_GP,
+    R13_SS,
+    R14_PF,
+    NUMBERS
+};
+
+/* refusal 1, for power-on and for the record lent to every other call */
+bool power_on_refused(size_t machine_length, uint8_t count, uint8_t features);
+bool machine_refused(struct buffer machine);
+
+/* Refusals 2 to 14: count, features and the call's arguments decide. A step that is not refused gets its instruction. */
+uint32_t call_refusal(uint8_t count, uint8_t features, const struct call *call, struct instruction *instruction);
+
+#endif

@@ -1,0 +1,28 @@
+# The tests over the C boundary: the library against an independent model.
+#   make test-host      500,000 random calls; build/test_host --seed random has others each time
+#   make test-valgrind  20,000 calls under valgrind, with buffers of exactly their length
+#   make test-faults    a model with one planted fault after the other: the runner has to find each
+
+HOST_FLAGS = -std=c11 -Wall -Wextra -Werror -O2 -Iinclude
+HOST_HEADERS := $(wildcard tests/host/*.h) include/keylocker.h
+HOST_OBJECTS := $(patsubst tests/host/%.c,build/host/%.o,$(wildcard tests/host/*.c))
+
+.PHONY: test-host test-valgrind test-faults
+
+test-host: build/test_host
+	./build/test_host
+
+test-valgrind: build/test_host
+	valgrind --quiet --error-exitcode=3 --leak-check=full ./build/test_host --calls 20000 >build/test_valgrind.log || \
+	    { cat build/test_valgrind.log; exit 1; }
+	@tail -n 1 build/test_valgrind.log
+
+test-faults: build/test_host
+	CC="$(CC)" CFLAGS="$(HOST_FLAGS)" tests/host/faults.sh
+
+build/test_host: $(HOST_OBJECTS) target/staticlib/libkeylocker.a
+	$(CC) $(HOST_FLAGS) -o $@ $^
+
+build/host/%.o: tests/host/%.c $(HOST_HEADERS)
+	@mkdir -p build/host
+	$(CC) $(HOST_FLAGS) -c -o $@ $<
