@@ -1,0 +1,20 @@
+/* Byte strings that grow. */
+#ifndef BYTES_H
+#define BYTES_H
+
+#include <stddef.h>
+#include <stdint.h>
+
+struct bytes {
+    uint8_t *data;
+    size_t len, room;
+};
+
+/* Exits with status 2 where there is no memory, as all allocation here does. */
+void *allocate(void *old, size_t size);
+
+void bytes_append(struct bytes *b, const uint8_t *data, size_t len);
+void bytes_assign(struct bytes *b, const uint8_t *data, size_t len);
+void bytes_free(struct bytes *b);
+
+#endif

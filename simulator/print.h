@@ -1,0 +1,32 @@
+/* What is printed. Nothing but the statements' text and the machine's answers goes into it, so that it is the same each time. */
+#ifndef PRINT_H
+#define PRINT_H
+
+#include "simulator.h"
+
+/* The statement's line number and text. Nothing when quiet. */
+void print_statement(struct simulator *s);
+
+/* A line below the statement, as by printf. Nothing when quiet. */
+void print_answer(struct simulator *s, const char *format, ...) __attribute__((format(printf, 2, 3)));
+
+/* A line below the statement: text, and bytes in hexadecimal, of which many are cut. */
+void print_bytes(struct simulator *s, const char *text, const uint8_t *data, size_t len);
+
+/* The same without the line around it, and whether or not quiet. */
+void put_hex(const uint8_t *data, size_t len);
+void put_hex_cut(const uint8_t *data, size_t len);
+
+/* "NAME", "nothing (all zero)", or its bytes. */
+void put_iwkey(const struct simulator *s, const uint8_t *iwkey);
+
+/* The expectation, and whether it is met; where it is not, the caller ends the line with what was found instead. Those met are not printed when quiet. */
+void print_expectation(struct simulator *s, bool met);
+
+/* Keeps the last call's answer for expect, and says a refusal in words; whether the call was done. */
+bool answered(struct simulator *s, enum call call, uint32_t answer);
+
+void say(struct simulator *s);
+void print_summary(const struct simulator *s);
+
+#endif
