@@ -137,7 +137,7 @@ static void run_encode(struct simulator *s, const struct mnemonic *m)
     size_t len = 32 + m->key_size;
     unsigned eax = (unsigned)get_register(cpu, KEYLOCKER_RAX);
     print_answer(s, "0 done: the IWKey that it is encoded under has key source %u, NoBackup %u", eax >> 1, eax & 1);
-    print_bytes(s, "handle ", xmm_of(cpu, 0), len);
+    print_result(s, "handle", result, xmm_of(cpu, 0), len);
     give_value(s, result, xmm_of(cpu, 0), len);
 }
 
@@ -161,14 +161,14 @@ static void put_handle(struct simulator *s)
     memcpy(s->memory + HANDLE_PLACE, s->right.data, s->right.len);
 }
 
-static void print_used(struct simulator *s, const struct mnemonic *m, size_t len)
+static void print_used(struct simulator *s, const struct mnemonic *m, const struct name *result, size_t len)
 {
     if (s->last.zf) {
-        print_answer(s, "0 done, ZF 1: the handle does not open here, the block%s unchanged", m->wide ? "s are" : " is");
+        print_answer(s, "0 done, ZF 1: not a handle of this IWKey, or not for this use; the block%s unchanged", m->wide ? "s are" : " is");
         return;
     }
     print_answer(s, "0 done, ZF 0: the handle opens, %s %scrypted", m->wide ? "8 blocks are" : "1 block is", m->encrypts ? "en" : "de");
-    print_bytes(s, "result ", xmm_of(operand_cpu(s), 0), len);
+    print_result(s, "result", result, xmm_of(operand_cpu(s), 0), len);
 }
 
 static void run_use(struct simulator *s, const struct mnemonic *m)
@@ -187,7 +187,7 @@ static void run_use(struct simulator *s, const struct mnemonic *m)
                               (uint8_t)(address >> 16), (uint8_t)(address >> 24)};
     bool done = execute(s, m->call, string, sizeof string, NULL);
     if (done)
-        print_used(s, m, len);
+        print_used(s, m, result, len);
     if (done && !s->last.zf)
         give_value(s, result, xmm_of(operand_cpu(s), 0), len);
     else

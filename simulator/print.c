@@ -17,6 +17,7 @@ static void put_statement(struct simulator *s)
 {
     size_t len = s->line.len;
     end_saying(s);
+    s->printed = true;
     printf("%6zu  %.*s%s", s->line.number, len > TEXT_LIMIT ? TEXT_LIMIT : (int)len, s->line.text, len > TEXT_LIMIT ? " ..." : "");
 }
 
@@ -63,11 +64,11 @@ void put_hex_cut(const uint8_t *data, size_t len)
         fputs("(no bytes)", stdout);
 }
 
-void print_bytes(struct simulator *s, const char *text, const uint8_t *data, size_t len)
+void print_result(struct simulator *s, const char *text, const struct name *name, const uint8_t *data, size_t len)
 {
     if (s->quiet)
         return;
-    printf("        %s", text);
+    printf("        %s%s", name == NULL ? text : name->text, name == NULL ? " " : " = ");
     put_hex_cut(data, len);
     putchar('\n');
 }
@@ -167,9 +168,9 @@ bool answered(struct simulator *s, enum call call, uint32_t answer)
 
 void say(struct simulator *s)
 {
-    if (!s->said && s->line.number > 1)
+    if (!s->said && s->printed)
         putchar('\n');
-    s->said = true;
+    s->said = s->printed = true;
     size_t blanks = 3;
     while (blanks < s->line.len && (s->line.text[blanks] == ' ' || s->line.text[blanks] == '\t'))
         blanks++;

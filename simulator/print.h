@@ -10,10 +10,10 @@ void print_statement(struct simulator *s);
 /* A line below the statement, as by printf. Nothing when quiet. */
 void print_answer(struct simulator *s, const char *format, ...) __attribute__((format(printf, 2, 3)));
 
-/* A line below the statement: text, and bytes in hexadecimal, of which many are cut. */
-void print_bytes(struct simulator *s, const char *text, const uint8_t *data, size_t len);
+/* A line below the statement: the name that the bytes are given, or the text where there is none, and the bytes. */
+void print_result(struct simulator *s, const char *text, const struct name *name, const uint8_t *data, size_t len);
 
-/* The same without the line around it, and whether or not quiet. */
+/* Bytes in hexadecimal, whether or not quiet; the second cuts many short. */
 void put_hex(const uint8_t *data, size_t len);
 void put_hex_cut(const uint8_t *data, size_t len);
 

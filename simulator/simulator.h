@@ -59,7 +59,8 @@ struct simulator {
     struct bytes left, right, hexadecimal; /* byte strings of the statement */
     struct last last;
     struct counts counts;
-    bool quiet, said;
+    bool quiet;
+    bool printed, said; /* anything so far; a text by say just before */
 };
 
 void simulator_init(struct simulator *s, const char *file, bool quiet);
