@@ -181,6 +181,8 @@ void say(struct simulator *s)
 void print_summary(const struct simulator *s)
 {
     const struct counts *c = &s->counts;
-    printf("\n%zu lines, %zu calls, %zu of them refused; %zu expectations, %zu of them not met\n", s->line.number, c->calls, c->refused, c->expects,
+    if (s->printed)
+        putchar('\n');
+    printf("%zu lines, %zu calls, %zu of them refused; %zu expectations, %zu of them not met\n", s->line.number, c->calls, c->refused, c->expects,
            c->unmet);
 }

@@ -110,10 +110,14 @@ class Trace:
     def take_number(self):
         return number(self.words.pop(0))
 
+    def new_name(self):
+        name = self.words.pop(0)
+        assert re.fullmatch(r"[\w.-]+", name) and not re.fullmatch("[0-9a-fA-F]+", name), name
+        return name
+
     def result(self, value):
         if self.accept("->"):
-            name = self.words.pop(0)
-            self.names[name] = value
+            self.names[self.new_name()] = value
 
     def call(self, function):
         """The call's result, or None where it is refused."""
@@ -175,12 +179,12 @@ class Trace:
         self.memory[address : address + len(data)] = data
 
     def define(self):
-        name = self.words.pop(0)
+        name = self.new_name()
         self.need("=")
         self.names[name] = self.bytes()
 
     def define_iwkey(self):
-        name = self.words.pop(0)
+        name = self.new_name()
         self.need("=")
         self.need("integrity")
         integrity = self.bytes(16)
