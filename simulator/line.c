@@ -97,24 +97,16 @@ void line_free(struct line *line)
     *line = (struct line){0};
 }
 
-static int digit_value(char c)
-{
-    if (c >= '0' && c <= '9')
-        return c - '0';
-    c = (char)tolower((unsigned char)c);
-    return c >= 'a' && c <= 'f' ? c - 'a' + 10 : 16;
-}
-
 bool number_in(const char *text, size_t len, uint64_t *number)
 {
     bool hexadecimal = len > 2 && text[0] == '0' && (text[1] == 'x' || text[1] == 'X');
-    unsigned base = hexadecimal ? 16 : 10;
+    uint64_t base = hexadecimal ? 16 : 10;
     size_t i = hexadecimal ? 2 : 0;
     *number = 0;
     if (i == len)
         return false;
     for (; i < len; i++) {
-        unsigned digit = (unsigned)digit_value(text[i]);
+        uint64_t digit = (uint64_t)hex_digit(text[i]); // not below base where it is none
         if (digit >= base || *number > (UINT64_MAX - digit) / base)
             return false;
         *number = *number * base + digit;

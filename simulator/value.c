@@ -1,5 +1,6 @@
 #include "value.h"
 
+#include <ctype.h>
 #include <inttypes.h>
 #include <string.h>
 
@@ -21,17 +22,6 @@ static bool one_of(struct word word, const char *const *keywords, size_t count)
 
 #define ONE_OF(word, keywords) one_of(word, keywords, sizeof keywords / sizeof *keywords)
 
-static int hex_digit(char c)
-{
-    if (c >= '0' && c <= '9')
-        return c - '0';
-    if (c >= 'a' && c <= 'f')
-        return c - 'a' + 10;
-    if (c >= 'A' && c <= 'F')
-        return c - 'A' + 10;
-    return -1;
-}
-
 static bool all_hex(struct word word)
 {
     for (size_t i = 0; i < word.len; i++)
@@ -42,7 +32,7 @@ static bool all_hex(struct word word)
 
 static bool name_character(char c)
 {
-    return (c >= 'a' && c <= 'z') || (c >= 'A' && c <= 'Z') || (c >= '0' && c <= '9') || c == '_' || c == '-' || c == '.';
+    return isalnum((unsigned char)c) || c == '_' || c == '-' || c == '.';
 }
 
 /* Bytes that stand somewhere else. */
@@ -56,11 +46,10 @@ static struct view hex_view(struct simulator *s, struct word word)
     if (word.len % 2 != 0)
         bad_line(&s->line, "'%.*s' has an odd number of hexadecimal digits; expected two for each byte", shown(word.len), word.text);
     s->hexadecimal.len = 0;
-    for (size_t i = 0; i < word.len; i += 2) {
-        uint8_t byte = (uint8_t)(hex_digit(word.text[i]) << 4 | hex_digit(word.text[i + 1]));
-        bytes_append(&s->hexadecimal, &byte, 1);
-    }
-    return (struct view){s->hexadecimal.data, s->hexadecimal.len};
+    bytes_reserve(&s->hexadecimal, word.len / 2);
+    for (size_t i = 0; i < word.len / 2; i++)
+        s->hexadecimal.data[i] = (uint8_t)(hex_digit(word.text[2 * i]) << 4 | hex_digit(word.text[2 * i + 1]));
+    return (struct view){s->hexadecimal.data, word.len / 2};
 }
 
 /* A place of the processor that the statement is for. */
