@@ -52,11 +52,11 @@ build/simulator/scenario.inc: simulator/scenario.trace
 	od -An -v -tx1 $< | sed 's/ \(..\)/0x\1,/g' >$@
 
 install: all
-	install -d $(DESTDIR)$(PREFIX)/lib/pkgconfig $(DESTDIR)$(PREFIX)/include $(DESTDIR)$(PREFIX)/bin
-	install -m 644 build/libkeylocker.a $(DESTDIR)$(PREFIX)/lib/
-	install -m 644 build/keylocker.pc $(DESTDIR)$(PREFIX)/lib/pkgconfig/
-	install -m 644 include/keylocker.h $(DESTDIR)$(PREFIX)/include/
-	install -m 755 build/keylocker-simulator $(DESTDIR)$(PREFIX)/bin/
+	install -d "$(DESTDIR)$(PREFIX)/lib/pkgconfig" "$(DESTDIR)$(PREFIX)/include" "$(DESTDIR)$(PREFIX)/bin"
+	install -m 644 build/libkeylocker.a "$(DESTDIR)$(PREFIX)/lib/"
+	install -m 644 build/keylocker.pc "$(DESTDIR)$(PREFIX)/lib/pkgconfig/"
+	install -m 644 include/keylocker.h "$(DESTDIR)$(PREFIX)/include/"
+	install -m 755 build/keylocker-simulator "$(DESTDIR)$(PREFIX)/bin/"
 
 demo: build/keylocker-simulator
 	@./build/keylocker-simulator

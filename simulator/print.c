@@ -29,6 +29,13 @@ void print_statement(struct simulator *s)
     putchar('\n');
 }
 
+void print_shown_statement(struct simulator *s)
+{
+    end_saying(s);
+    s->printed = true;
+    print_statement(s);
+}
+
 void print_answer(struct simulator *s, const char *format, ...)
 {
     if (s->quiet)

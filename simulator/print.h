@@ -7,6 +7,9 @@
 /* The statement's line number and text. Nothing when quiet. */
 void print_statement(struct simulator *s);
 
+/* The same for a statement that prints even when quiet, behind it. */
+void print_shown_statement(struct simulator *s);
+
 /* A line below the statement, as by printf. Nothing when quiet. */
 void print_answer(struct simulator *s, const char *format, ...) __attribute__((format(printf, 2, 3)));
 

@@ -4,6 +4,7 @@
 #include <stdio.h>
 #include <string.h>
 
+#include "define.h"
 #include "expect.h"
 #include "instructions.h"
 #include "platform.h"
@@ -62,7 +63,8 @@ static const struct {
 
 static uint32_t take_register(struct simulator *s)
 {
-    static const char expected[] = "IA32_COPY_STATUS, IA32_IWKEYBACKUP_STATUS, IA32_COPY_LOCAL_TO_PLATFORM, IA32_COPY_PLATFORM_TO_LOCAL or an address of 32 bits";
+    static const char expected[] = "IA32_COPY_STATUS, IA32_IWKEYBACKUP_STATUS, IA32_COPY_LOCAL_TO_PLATFORM, IA32_COPY_PLATFORM_TO_LOCAL "
+                                   "or an address of 32 bits";
     struct word word = take_word(&s->line, expected);
     uint64_t address;
     for (size_t i = 0; i < sizeof backup_registers / sizeof *backup_registers; i++)
@@ -158,21 +160,6 @@ static void run_set(struct simulator *s)
     print_statement(s);
 }
 
-static void run_cpu_bytes(struct simulator *s)
-{
-    run_bytes(s);
-}
-
-static void run_cpu_show(struct simulator *s)
-{
-    if (!at_end(&s->line)) {
-        show_bytes(s);
-        return;
-    }
-    print_statement(s);
-    show_cpu(s);
-}
-
 /* ---- dispatch */
 
 static const struct {
@@ -180,13 +167,19 @@ static const struct {
     void (*run)(struct simulator *s);
     bool has_cpl;
 } verbs[] = {
-    {"step", run_step, true},         {"read", run_read, true},         {"write", run_write, true},   {"set", run_set, false},
-    {"expect", run_expect, false},    {"bytes", run_cpu_bytes, false},  {"show", run_cpu_show, false},
+    {"step", run_step, true},
+    {"read", run_read, true},
+    {"write", run_write, true},
+    {"set", run_set, false},
+    {"expect", run_expect, false},
+    {"bytes", run_bytes, false},
+    {"show", run_cpu_show, false},
 };
 
 static void run_verb(struct simulator *s)
 {
-    static const char expected[] = "an instruction (loadiwkey, encodekey128, encodekey256, aesenc128kl and so on), step, read, write, set, bytes, show or expect";
+    static const char expected[] = "an instruction (loadiwkey, encodekey128, encodekey256, aesenc128kl and so on), step, read, write, set, bytes, show "
+                                   "or expect";
     struct word word = take_word(&s->line, expected);
     const struct mnemonic *mnemonic = mnemonic_named(word);
     if (mnemonic != NULL) {

@@ -8,33 +8,6 @@
 #include "record.h"
 #include "value.h"
 
-/* ---- names */
-
-void run_bytes(struct simulator *s)
-{
-    struct name *name = take_new_name(s);
-    take_keyword(&s->line, "=");
-    take_bytes(s, "bytes", &s->left);
-    take_end(&s->line);
-    print_statement(s);
-    give_value(s, name, s->left.data, s->left.len);
-}
-
-void run_iwkey(struct simulator *s)
-{
-    struct name *name = take_new_name(s);
-    take_keyword(&s->line, "=");
-    take_keyword(&s->line, "integrity");
-    take_bytes_of(s, "an integrity key", 16, &s->left);
-    take_keyword(&s->line, "encryption");
-    take_bytes_of(s, "an encryption key", 32, &s->right);
-    take_end(&s->line);
-    print_statement(s);
-    bytes_append(&s->left, s->right.data, s->right.len);
-    give_value(s, name, s->left.data, s->left.len);
-    name->is_iwkey = true;
-}
-
 /* ---- the machine */
 
 static void put_key(const struct simulator *s, const uint8_t *iwkey)
@@ -83,7 +56,7 @@ static bool zero_block(const uint8_t *block)
 }
 
 /* Registers that are zero are left out, but CPL and control bits are always told. */
-void show_cpu(struct simulator *s)
+static void show_cpu(struct simulator *s)
 {
     struct cpu *cpu = &s->cpus[s->processor];
     printf("        record of %zu bytes", cpu->len);
@@ -105,11 +78,11 @@ void show_cpu(struct simulator *s)
 
 /* ---- bytes */
 
-void show_bytes(struct simulator *s)
+static void show_bytes(struct simulator *s)
 {
     take_bytes(s, "machine or bytes", &s->left);
     take_end(&s->line);
-    print_statement(s);
+    print_shown_statement(s);
     for (size_t i = 0; i < s->left.len; i += 32) {
         printf("        %6zx  ", i);
         put_hex(s->left.data + i, s->left.len - i < 32 ? s->left.len - i : 32);
@@ -120,9 +93,19 @@ void show_bytes(struct simulator *s)
 void run_show(struct simulator *s)
 {
     if (s->line.count == 2 && accept(&s->line, "machine")) {
-        print_statement(s);
+        print_shown_statement(s);
         show_machine(s);
         return;
     }
     show_bytes(s);
+}
+
+void run_cpu_show(struct simulator *s)
+{
+    if (!at_end(&s->line)) {
+        show_bytes(s);
+        return;
+    }
+    print_shown_statement(s);
+    show_cpu(s);
 }

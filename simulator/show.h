@@ -4,13 +4,10 @@
 
 #include "simulator.h"
 
+/* Behind "show". */
 void run_show(struct simulator *s);
 
-/* NAME = BYTES, behind "bytes"; and an IWKey's two parts, behind "iwkey". */
-void run_bytes(struct simulator *s);
-void run_iwkey(struct simulator *s);
-
-void show_bytes(struct simulator *s);
-void show_cpu(struct simulator *s); /* the statement's */
+/* The same behind "cpu N": bytes, or all registers of the processor. */
+void run_cpu_show(struct simulator *s);
 
 #endif

@@ -3,6 +3,7 @@
 #include <stdlib.h>
 #include <string.h>
 
+#include "define.h"
 #include "expect.h"
 #include "platform.h"
 #include "print.h"
@@ -18,6 +19,8 @@ void simulator_init(struct simulator *s, const char *file, bool quiet)
     memset(s->memory, 0, MEMORY_ROOM);
     s->cpus = allocate(NULL, CPUS * sizeof *s->cpus);
     fresh_cpus(s);
+    bytes_reserve(&s->left, 1); // no null pointers, so that no bytes are copied and compared like others
+    bytes_reserve(&s->right, 1);
 }
 
 void simulator_free(struct simulator *s)
@@ -47,8 +50,18 @@ static const struct {
     const char *name;
     void (*run)(struct simulator *s);
 } statements[] = {
-    {"cpu", run_cpu},     {"expect", run_expect}, {"say", say},         {"bytes", run_bytes},     {"iwkey", run_iwkey},   {"memory", run_memory},
-    {"settle", run_settle}, {"sleep", run_sleep}, {"reset", run_reset}, {"power-on", run_power_on}, {"machine", run_machine}, {"show", run_show},
+    {"cpu", run_cpu},
+    {"expect", run_expect},
+    {"say", say},
+    {"bytes", run_bytes},
+    {"iwkey", run_iwkey},
+    {"memory", run_memory},
+    {"settle", run_settle},
+    {"sleep", run_sleep},
+    {"reset", run_reset},
+    {"power-on", run_power_on},
+    {"machine", run_machine},
+    {"show", run_show},
 };
 
 void run_line(struct simulator *s, const char *text, size_t len)

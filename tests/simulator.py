@@ -181,6 +181,14 @@ def altered(line):
     return line.split("#")[0] + " 00"
 
 
+def test_unmet_by_refused(tmp):
+    """What a refused call would have answered is not taken from the call before."""
+    head = "power-on 1\ncpu 0 loadiwkey 00*48\ncpu 0 read 0x990\n"
+    for refused, expect in [("cpu 0 step empty", "zf 0"), ("cpu 0 read 0x992", "value 0")]:
+        result = must(simulate(f"{head}{refused}\nexpect {expect}\n"), 1, refused)
+        need(f"expect {expect}: NOT MET, the last call was refused" in result.stdout, result.stdout)
+
+
 def test_unmet(tmp):
     """Each expectation of each trace can fail."""
     count = 0
@@ -353,11 +361,15 @@ def test_progress(tmp):
     os.close(main)
     need(re.search(rb"\rline \d+, \d+ %, \d+ lines/s", shown), "no progress on a terminal:", shown[:200])
     need(shown.endswith(b"\r\x1b[K"), "the progress is left on the terminal")
-    need((tmp / "out").read_text() == "800003 lines, 800003 calls, 0 of them refused; 0 expectations, 0 of them not met\n", "printed:", (tmp / "out").read_text())
+    printed = (tmp / "out").read_text()
+    need(printed == "800003 lines, 800003 calls, 0 of them refused; 0 expectations, 0 of them not met\n", "printed:", printed)
     need(command(PROGRAM, "-q", tmp / "long.trace").stderr == "", "progress without a terminal")
 
 
 # ---- memory
+
+
+DAMAGE = ["", "0", "[", "..", "]", "*", "^", " ", "->", "=", "9" * 30, "#", "\x7f", "xmm1", "machine"]
 
 
 def mutated(rng, lines):
@@ -366,7 +378,7 @@ def mutated(rng, lines):
     line = some[6]
     for _ in range(rng.randrange(1, 4)):
         at = rng.randrange(len(line) + 1)
-        line = line[:at] + rng.choice(["", "0", "[", "..", "]", "*", "^", " ", "->", "=", "9" * 30, "#", "\x7f", "xmm1", "machine"]) + line[at + rng.randrange(3) :]
+        line = line[:at] + rng.choice(DAMAGE) + line[at + rng.randrange(3) :]
     return "\n".join(some[:6] + [line] + some[7:])
 
 
