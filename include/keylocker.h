@@ -12,8 +12,8 @@
  * Every call answers KEYLOCKER_DONE (0), or the number of the refusal that stopped it. A refused call writes nothing: the machine block, the CPU record
  * and *value are as they were.
  *
- * What the caller need not owe: every combination of arguments gets an answer. Lengths, contents and numbers are checked, none is assumed; no
- * buffer needs an alignment. What the caller owes is valid C:
+ * The caller need not check anything: every combination of arguments gets an answer. Lengths, contents and numbers are checked by the call, none is
+ * assumed, and byte buffers need no alignment. What the caller owes is valid C:
  *   - behind each pointer at least as many bytes as the length says, and a uint64_t behind value; a null pointer only with length 0;
  *   - a buffer that the call may write (machine, except in keylocker_read; cpu; value) overlaps no other buffer of the call. Those that are only read
  *     (memory, random, string) may overlap each other: the string may lie in guest memory;
@@ -25,10 +25,10 @@
 #ifndef KEYLOCKER_H
 #define KEYLOCKER_H
 
-#define KEYLOCKER_VERSION "1.0.0"
-
 #include <stddef.h>
 #include <stdint.h>
+
+#define KEYLOCKER_VERSION "1.0.0"
 
 #ifdef __cplusplus
 extern "C" {
@@ -82,8 +82,8 @@ extern "C" {
  *
  * XMM0 to XMM15, 16 bytes each, byte 0 of a register first; RAX, RCX, RDX, RBX, RSP, RBP, RSI, RDI, R8 to R15, 8 bytes each; RIP; RFLAGS;
  * CPL (0 to 3); control bits; zeros. It is the host's: no call but keylocker_step looks at it, and sleep and reset leave it. */
-#define KEYLOCKER_CPU_XMM 0                                                              /* XMM0; XMM n is 16 n further on */
-#define KEYLOCKER_CPU_REGISTERS (KEYLOCKER_CPU_XMM + 16 * 16)                            /* RAX; register n is 8 n further on */
+#define KEYLOCKER_CPU_XMM 0                                   /* XMM0; XMM n is 16 n further on */
+#define KEYLOCKER_CPU_REGISTERS (KEYLOCKER_CPU_XMM + 16 * 16) /* RAX; register n, by the numbers below, is 8 n further on */
 #define KEYLOCKER_CPU_RIP (KEYLOCKER_CPU_REGISTERS + 16 * 8)
 #define KEYLOCKER_CPU_RFLAGS (KEYLOCKER_CPU_RIP + 8)
 #define KEYLOCKER_CPU_CPL (KEYLOCKER_CPU_RFLAGS + 8)
@@ -143,13 +143,15 @@ extern "C" {
 #define KEYLOCKER_BAD_RANDOM 7    /* random data neither 0 nor KEYLOCKER_RANDOM_SIZE bytes */
 #define KEYLOCKER_BAD_BYTE 8      /* a byte of the string that no instruction has there */
 #define KEYLOCKER_STRING_ENDS 9   /* the string ends inside an instruction */
-#define KEYLOCKER_UD 10 /* #UD: LOCK; KL feature or CR4.KL off; CR0.EM on; CR4.OSFXSR off; firmware feature off (not LOADIWKEY); wide feature off (wide) */
-#define KEYLOCKER_NM 11 /* #NM: CR0.TS on */
-#define KEYLOCKER_GP 12 /* #GP(0): ENCODEKEY's source bits 31:3; LOADIWKEY at CPL above 0, its EAX bits 31:5, key source above 1, unsupported NoBackup or
-                         * key source 1; a handle byte not canonical; a backup register at CPL above 0, without the KL or backup feature,
-                         * at an unknown address, in the wrong direction, with bits 63:1 */
-#define KEYLOCKER_SS 13 /* #SS(0): a handle byte not canonical, with RSP or RBP as the base */
-#define KEYLOCKER_PF 14 /* #PF: a handle byte outside memory */
+#define KEYLOCKER_UD 10           /* #UD: LOCK; KL feature or CR4.KL off; CR0.EM on; CR4.OSFXSR off; firmware feature off (not for LOADIWKEY);
+                                   * wide feature off (for wide forms) */
+#define KEYLOCKER_NM 11           /* #NM: CR0.TS on */
+#define KEYLOCKER_GP 12           /* #GP(0): ENCODEKEY with source bits 31:3; LOADIWKEY at CPL above 0, with EAX bits 31:5, a key source above 1, or
+                                   * NoBackup or key source 1 that the features lack; a handle byte at an address that is not canonical; a backup
+                                   * register at CPL above 0, without the KL or backup feature, unknown, read for written or written for read,
+                                   * or written with bits 63:1 */
+#define KEYLOCKER_SS 13           /* #SS(0): a handle byte at an address that is not canonical, with RSP or RBP as the base */
+#define KEYLOCKER_PF 14           /* #PF: a handle byte outside memory */
 
 /* ---- the calls ---- */
 
@@ -158,7 +160,7 @@ extern "C" {
 uint32_t keylocker_power_on(uint8_t *machine, size_t machine_len, uint8_t count, uint8_t features);
 
 /* Executes the one instruction that the string begins with, on a processor; bytes behind it are not looked at. The string is
- * F0 (LOCK, always #UD) or nothing, F3, a REX byte or nothing, 0F 38, opcode, ModRM, SIB and displacement as Intel has them in 64-bit mode:
+ * F0 (LOCK, which gives #UD) or nothing, F3, a REX byte or nothing, 0F 38, opcode, ModRM, SIB and displacement as Intel has them in 64-bit mode:
  *   DC, DD, DE, DF with memory   AESENC128KL, AESDEC128KL, AESENC256KL, AESDEC256KL; reg is the block, the handle is in memory
  *   D8 /0 to /3 with memory      AESENCWIDE128KL, AESDECWIDE128KL, AESENCWIDE256KL, AESDECWIDE256KL on XMM0 to XMM7
  *   DC with a register           LOADIWKEY: reg SRC1 (encryption key, high half), r/m SRC2 (low half), XMM0 the integrity key, EAX as above
@@ -182,9 +184,9 @@ uint32_t keylocker_step(uint8_t *machine, size_t machine_len, uint8_t processor,
 /* what is read from IA32_IWKEYBACKUP_STATUS */
 #define KEYLOCKER_BACKUP_VALID 0x1
 #define KEYLOCKER_BACKUP_ERROR 0x4
-#define KEYLOCKER_BACKUP_CONSUMED 0x8 /* persistent storage has done with it: a sleep no longer decides its fate */
+#define KEYLOCKER_BACKUP_CONSUMED 0x8 /* persistent storage has done with it, well or badly; a sleep clears it */
 
-/* cpl is the CPL that the register is read at; only 0 may. *value is written only where the answer is 0. The machine is not written. */
+/* cpl is the CPL that the register is read or written at; all but 0 are refused. *value is written only where the answer is 0. The machine is not written. */
 uint32_t keylocker_read(const uint8_t *machine, size_t machine_len, uint8_t processor, uint8_t cpl, uint32_t address, uint64_t *value);
 
 /* A copy that fails is no refusal: the answer is 0, and IA32_COPY_STATUS tells. */
