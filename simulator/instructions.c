@@ -85,21 +85,20 @@ static bool take_random(struct simulator *s)
 static void run_load(struct simulator *s, const struct mnemonic *m)
 {
     take_bytes_of(s, "an IWKey (integrity key, then encryption key)", KEYLOCKER_IWKEY_SOURCE, &s->left);
-    uint64_t eax = accept(&s->line, "no-backup") ? KEYLOCKER_LOADIWKEY_NO_BACKUP : 0;
-    if (take_random(s))
-        eax |= KEYLOCKER_LOADIWKEY_RANDOM;
+    bool no_backup = accept(&s->line, "no-backup");
+    bool random = take_random(s);
+    no_backup |= accept(&s->line, "no-backup"); // in either order
     take_end(&s->line);
     print_statement(s);
     struct cpu *cpu = operand_cpu(s);
     memcpy(xmm_of(cpu, 0), s->left.data, 3 * 16); // integrity key; SRC2, the low half; SRC1, the high half
-    set_register(cpu, KEYLOCKER_RAX, eax);
+    set_register(cpu, KEYLOCKER_RAX, (no_backup ? KEYLOCKER_LOADIWKEY_NO_BACKUP : 0) | (random ? KEYLOCKER_LOADIWKEY_RANDOM : 0));
     if (!execute_registers(s, m, &s->right))
         return;
     if (s->last.zf)
         print_answer(s, "0 done, ZF 1: the random source was not ready, the IWKey is kept");
     else
-        print_answer(s, "0 done, ZF 0: the IWKey is loaded (key source %d, NoBackup %d)", (eax & KEYLOCKER_LOADIWKEY_RANDOM) != 0,
-                     (int)(eax & KEYLOCKER_LOADIWKEY_NO_BACKUP));
+        print_answer(s, "0 done, ZF 0: the IWKey is loaded (key source %d, NoBackup %d)", random, no_backup);
 }
 
 /* ---- ENCODEKEY */

@@ -27,7 +27,7 @@ void progress_start(uint64_t total, bool printing)
     progress.total = total;
     if (progress.on) {
         progress.start = seconds();
-        progress.next = progress.start + 1; // shorter traces show none
+        progress.next = progress.start + 0.5; // shorter traces show none
     }
 }
 

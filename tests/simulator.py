@@ -344,26 +344,33 @@ def test_many_names(tmp):
     must(simulate("\n".join(lines), "-q"), 0, "many names")
 
 
+def on_terminal(args, out):
+    """What a run writes to standard error, which is a terminal."""
+    main, terminal = pty.openpty()
+    with open(out, "w") as file:
+        process = subprocess.Popen(args, stdout=file, stderr=terminal)
+    os.close(terminal)
+    shown = b""
+    with contextlib.suppress(OSError):  # the end of a terminal
+        while some := os.read(main, 65536):
+            shown += some
+    os.close(main)
+    need(process.wait() == 0, "exit status", process.returncode)
+    return shown
+
+
 def test_progress(tmp):
     """On a terminal only, and not in what is printed."""
-    use = f"cpu 0 aesenc128kl handle {'5a' * 16}\n"
-    head = "power-on 1\ncpu 0 loadiwkey 11*48\ncpu 0 encodekey128 22*16 -> handle\n"
-    (tmp / "long.trace").write_text(head + use * 800_000)
-    main, terminal = pty.openpty()
-    with open(tmp / "out", "w") as out:
-        process = subprocess.Popen([PROGRAM, "-q", tmp / "long.trace"], stdout=out, stderr=terminal)
-        os.close(terminal)
-        shown = b""
-        with contextlib.suppress(OSError):  # the end of a terminal
-            while some := os.read(main, 65536):
-                shown += some
-        need(process.wait() == 0, "exit status")
-    os.close(main)
+    count = 15_000  # lines that take long: some seconds
+    (tmp / "long.trace").write_text("expect memory = memory\n" * count)
+    summary = f"{count} lines, 0 calls, 0 of them refused; {count} expectations, 0 of them not met\n"
+    shown = on_terminal([PROGRAM, "-q", tmp / "long.trace"], tmp / "out")
     need(re.search(rb"\rline \d+, \d+ %, \d+ lines/s", shown), "no progress on a terminal:", shown[:200])
     need(shown.endswith(b"\r\x1b[K"), "the progress is left on the terminal")
-    printed = (tmp / "out").read_text()
-    need(printed == "800003 lines, 800003 calls, 0 of them refused; 0 expectations, 0 of them not met\n", "printed:", printed)
-    need(command(PROGRAM, "-q", tmp / "long.trace").stderr == "", "progress without a terminal")
+    need((tmp / "out").read_text() == summary, "printed:", (tmp / "out").read_text())
+    need(on_terminal([PROGRAM], tmp / "out") == b"", "progress of a short trace")
+    result = command(PROGRAM, "-q", tmp / "long.trace")
+    need((result.stdout, result.stderr) == (summary, ""), "progress without a terminal:", result.stderr[:200])
 
 
 # ---- memory

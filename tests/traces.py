@@ -255,6 +255,7 @@ class Trace:
         key = self.bytes(48)
         no_backup = self.accept("no-backup")
         random_data = self.random_data()
+        no_backup |= self.accept("no-backup")
         assert not self.words
         self.put(key)
         self.put_register("rax", no_backup + 2 * (random_data is not None))
