@@ -20,7 +20,7 @@ void print_result(struct simulator *s, const char *text, const struct name *name
 void put_hex(const uint8_t *data, size_t len);
 void put_hex_cut(const uint8_t *data, size_t len);
 
-/* "NAME", "nothing (all zero)", or its bytes. */
+/* The name that the trace gave the IWKey, "all zero", or its bytes. */
 void put_iwkey(const struct simulator *s, const uint8_t *iwkey);
 
 /* The expectation, and whether it is met; where it is not, the caller ends the line with what was found instead. Those met are not printed when quiet. */
