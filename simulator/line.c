@@ -1,6 +1,5 @@
 #include "line.h"
 
-#include <ctype.h>
 #include <inttypes.h>
 #include <stdarg.h>
 #include <stdio.h>
@@ -33,10 +32,21 @@ static bool blank(char c)
     return c == ' ' || c == '\t';
 }
 
+static bool in_word(char c)
+{
+    return (unsigned char)c > ' ';
+}
+
+/* Whatever the locale. */
+static char lower(char c)
+{
+    return c >= 'A' && c <= 'Z' ? (char)(c - 'A' + 'a') : c;
+}
+
 bool word_is(struct word word, const char *keyword)
 {
     size_t i = 0;
-    while (i < word.len && keyword[i] != '\0' && tolower((unsigned char)word.text[i]) == keyword[i])
+    while (i < word.len && keyword[i] != '\0' && lower(word.text[i]) == keyword[i])
         i++;
     return i == word.len && keyword[i] == '\0';
 }
@@ -59,15 +69,6 @@ static size_t statement_len(const char *text, size_t len)
     return comment == NULL ? len : (size_t)(comment - text);
 }
 
-static void check_characters(const struct line *line)
-{
-    for (size_t i = 0; i < line->len; i++) {
-        unsigned char c = (unsigned char)line->text[i];
-        if (c < ' ' && c != '\t')
-            bad_line(line, "a control character (byte 0x%02x); expected plain text", c);
-    }
-}
-
 void line_split(struct line *line, const char *text, size_t len)
 {
     while (len > 0 && blank(*text)) {
@@ -80,11 +81,12 @@ void line_split(struct line *line, const char *text, size_t len)
     line->text = text;
     line->len = len;
     line->count = line->next = 0;
-    check_characters(line);
     for (size_t i = 0; i < len;) {
         size_t begin = i;
-        while (i < len && !blank(text[i]))
+        while (i < len && in_word(text[i]))
             i++;
+        if (i == begin)
+            bad_line(line, "a control character (byte 0x%02x); expected plain text", (unsigned)(unsigned char)text[i]);
         add_word(line, text + begin, i - begin);
         while (i < len && blank(text[i]))
             i++;
