@@ -1,13 +1,18 @@
+# make           build what make install installs, in build/: the library, its pkg-config file and the simulator
+# make install   install them and the header below $(DESTDIR)$(PREFIX); PREFIX is /usr/local unless given
+# make demo      run the simulator's built-in scenario
 # make bench     measure the proved libraries against AES and key wrapping in C
 # make examples  print the papers' examples, computed by the proved libraries
 # make test      all tests, as tests/run.sh has them
 # make test-decoder  compare the proved decoder with GNU objdump, on about a million strings
 # make test-machine  compare the proved machine with the model in Python, on 20,000 random calls
 # make test-host, test-valgrind, test-faults  compare the C library with a model in C; tests/host/rules.mk says how
+# make test-simulator  the simulator on traces that the model in Python checks, the installed files, and the example for C
 # make clean     remove build/; what rt made is in target/
 
 CC = gcc
 CFLAGS = -std=c11 -Wall -Wextra -O2
+PREFIX = /usr/local
 
 # all that the libraries are proved and compiled from
 SOURCES := crates.txt $(shell find crates -name '*.rt' -o -name '*.antt')
@@ -17,7 +22,51 @@ BASELINE = measure aes_bytes aes_ttables
 AES = aes $(BASELINE)
 KEYWRAP = keywrap keywrap_bytes keywrap_ttables $(BASELINE)
 
-.PHONY: bench examples test test-decoder test-machine clean
+.PHONY: all install demo bench examples test test-decoder test-machine test-simulator clean always
+
+all: build/libkeylocker.a build/keylocker.pc build/keylocker-simulator
+
+# ---- for C users
+
+VERSION := $(shell sed -n 's/^.define KEYLOCKER_VERSION "\(.*\)"/\1/p' include/keylocker.h)
+SIMULATOR = $(patsubst simulator/%.c,build/simulator/%.o,$(wildcard simulator/*.c))
+
+build/libkeylocker.a: target/staticlib/libkeylocker.a
+	@mkdir -p build
+	cp $< $@
+
+# always: PREFIX may be another one than last time
+build/keylocker.pc: include/keylocker.pc.in always
+	@mkdir -p build
+	@sed -e 's|@PREFIX@|$(PREFIX)|' -e 's|@VERSION@|$(VERSION)|' $< >$@
+
+build/keylocker-simulator: $(SIMULATOR) build/libkeylocker.a
+	$(CC) $(CFLAGS) -o $@ $^
+
+build/simulator/%.o: simulator/%.c $(wildcard simulator/*.h) include/keylocker.h
+	@mkdir -p build/simulator
+	$(CC) $(CFLAGS) -Iinclude -Ibuild/simulator -c -o $@ $<
+
+build/simulator/scenario.o: build/simulator/scenario.inc
+build/simulator/scenario.inc: simulator/scenario.trace
+	@mkdir -p build/simulator
+	od -An -v -tx1 $< | sed 's/ \(..\)/0x\1,/g' >$@
+
+install: all
+	install -d "$(DESTDIR)$(PREFIX)/lib/pkgconfig" "$(DESTDIR)$(PREFIX)/include" "$(DESTDIR)$(PREFIX)/bin"
+	install -m 644 build/libkeylocker.a "$(DESTDIR)$(PREFIX)/lib/"
+	install -m 644 build/keylocker.pc "$(DESTDIR)$(PREFIX)/lib/pkgconfig/"
+	install -m 644 include/keylocker.h "$(DESTDIR)$(PREFIX)/include/"
+	install -m 755 build/keylocker-simulator "$(DESTDIR)$(PREFIX)/bin/"
+
+demo: build/keylocker-simulator
+	@./build/keylocker-simulator
+
+test-simulator: all
+	python3 tests/traces.py
+	python3 tests/simulator.py
+
+# ---- measuring
 
 bench: build/bench_aes build/bench_keywrap
 	./build/bench_aes

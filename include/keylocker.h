@@ -2,11 +2,23 @@
  *
  * A host keeps one block of KEYLOCKER_MACHINE_SIZE bytes for each emulated machine, and for each emulated logical processor a CPU record of
  * KEYLOCKER_CPU_SIZE bytes. It powers the machine on once, and then hands the block to every call; each call finds what the one before left there.
- * Every call answers 0, or the number of the refusal that stopped it. A refused call writes nothing.
  *
- * Every combination of arguments gets an answer: lengths, contents and numbers are checked, none is assumed. What the caller owes is valid C:
- * a pointer with at least as many bytes behind it as the length says (a null pointer only with length 0), buffers of one call that do not overlap,
- * and no other access to a buffer while the call runs. Different machines may be used by different threads at the same time.
+ *     uint8_t machine[KEYLOCKER_MACHINE_SIZE], cpu[KEYLOCKER_CPU_SIZE] = {0};
+ *     keylocker_power_on(machine, sizeof machine, 1, KEYLOCKER_FEATURE_ALL);
+ *     cpu[KEYLOCKER_CPU_CONTROL] = KEYLOCKER_CONTROL_CR4_KL | KEYLOCKER_CONTROL_CR4_OSFXSR;
+ *     ... registers are put into cpu, and for each instruction:
+ *     answer = keylocker_step(machine, sizeof machine, 0, cpu, sizeof cpu, memory, memory_len, NULL, 0, string, string_len);
+ *
+ * Every call answers KEYLOCKER_DONE (0), or the number of the refusal that stopped it. A refused call writes nothing: the machine block, the CPU record
+ * and *value are as they were.
+ *
+ * The caller need not check anything: every combination of arguments gets an answer. Lengths, contents and numbers are checked by the call, none is
+ * assumed, and byte buffers need no alignment. What the caller owes is valid C:
+ *   - behind each pointer at least as many bytes as the length says, and a uint64_t behind value; a null pointer only with length 0;
+ *   - a buffer that the call may write (machine, except in keylocker_read; cpu; value) overlaps no other buffer of the call. Those that are only read
+ *     (memory, random, string) may overlap each other: the string may lie in guest memory;
+ *   - no other thread uses a buffer while a call may write it.
+ * The library keeps nothing between calls and allocates nothing, so different machines may be used by different threads at the same time.
  *
  * All integers in buffers are little-endian.
  */
@@ -16,6 +28,8 @@
 #include <stddef.h>
 #include <stdint.h>
 
+#define KEYLOCKER_VERSION "1.0.0"
+
 #ifdef __cplusplus
 extern "C" {
 #endif
@@ -23,12 +37,27 @@ extern "C" {
 /* ---- the machine block ----
  *
  * Processor count (1 to 16), features, 16 entries, backup, store, pending, valid, error, consumed. An entry is an IWKey (integrity key, encryption key,
- * key source, NoBackup) and a copy status; backup and store are a presence byte and an IWKey. Flags are 0 or 1; entries from the count on
- * and absent IWKeys are zero. The host may read and copy the block (a snapshot is a copy), and may write it if it keeps to this form. */
+ * key source, NoBackup) and a copy status; backup (IWKeyBackup) and store (what persistent storage holds of it) are a presence byte and an IWKey.
+ * Flags and key sources are 0 or 1; entries from the count on and absent IWKeys are zero. The host may read and copy the block (a snapshot is a
+ * copy), and may write it if it keeps to this form; a block of another form is refused by every call but power-on. */
 #define KEYLOCKER_PROCESSORS 16
-#define KEYLOCKER_IWKEY_SIZE (16 + 32 + 1 + 1)
-#define KEYLOCKER_ENTRY_SIZE (KEYLOCKER_IWKEY_SIZE + 1)
-#define KEYLOCKER_SLOT_SIZE (1 + KEYLOCKER_IWKEY_SIZE)
+
+/* an IWKey */
+#define KEYLOCKER_IWKEY_INTEGRITY 0
+#define KEYLOCKER_IWKEY_ENCRYPTION (KEYLOCKER_IWKEY_INTEGRITY + 16)
+#define KEYLOCKER_IWKEY_SOURCE (KEYLOCKER_IWKEY_ENCRYPTION + 32)
+#define KEYLOCKER_IWKEY_NO_BACKUP (KEYLOCKER_IWKEY_SOURCE + 1)
+#define KEYLOCKER_IWKEY_SIZE (KEYLOCKER_IWKEY_NO_BACKUP + 1)
+
+/* a processor's entry: its IWKey, and then */
+#define KEYLOCKER_ENTRY_COPY_STATUS KEYLOCKER_IWKEY_SIZE
+#define KEYLOCKER_ENTRY_SIZE (KEYLOCKER_ENTRY_COPY_STATUS + 1)
+
+/* backup and store */
+#define KEYLOCKER_SLOT_PRESENT 0
+#define KEYLOCKER_SLOT_IWKEY 1
+#define KEYLOCKER_SLOT_SIZE (KEYLOCKER_SLOT_IWKEY + KEYLOCKER_IWKEY_SIZE)
+
 #define KEYLOCKER_MACHINE_COUNT 0
 #define KEYLOCKER_MACHINE_FEATURES 1
 #define KEYLOCKER_MACHINE_ENTRIES 2
@@ -38,36 +67,47 @@ extern "C" {
 #define KEYLOCKER_MACHINE_VALID (KEYLOCKER_MACHINE_PENDING + 1)
 #define KEYLOCKER_MACHINE_ERROR (KEYLOCKER_MACHINE_PENDING + 2)
 #define KEYLOCKER_MACHINE_CONSUMED (KEYLOCKER_MACHINE_PENDING + 3)
-#define KEYLOCKER_MACHINE_SIZE (KEYLOCKER_MACHINE_PENDING + 4)
+#define KEYLOCKER_MACHINE_SIZE (KEYLOCKER_MACHINE_PENDING + 4) /* 924 */
 
 /* features */
-#define KEYLOCKER_FEATURE_KL 0x01       /* Key Locker */
-#define KEYLOCKER_FEATURE_FIRMWARE 0x02 /* enabled by firmware: encodes and uses need it */
-#define KEYLOCKER_FEATURE_WIDE 0x04     /* the wide forms */
-#define KEYLOCKER_FEATURE_BACKUP 0x08   /* the backup registers */
+#define KEYLOCKER_FEATURE_KL 0x01        /* Key Locker */
+#define KEYLOCKER_FEATURE_FIRMWARE 0x02  /* enabled by firmware: encodes and uses need it */
+#define KEYLOCKER_FEATURE_WIDE 0x04      /* the wide forms */
+#define KEYLOCKER_FEATURE_BACKUP 0x08    /* the backup registers */
 #define KEYLOCKER_FEATURE_NO_BACKUP 0x10 /* LOADIWKEY may set NoBackup */
-#define KEYLOCKER_FEATURE_RANDOM 0x20   /* LOADIWKEY may use key source 1 */
+#define KEYLOCKER_FEATURE_RANDOM 0x20    /* LOADIWKEY may use key source 1 */
 #define KEYLOCKER_FEATURE_ALL 0x3F
 
 /* ---- the CPU record ----
  *
- * XMM0 to XMM15, 16 bytes each; RAX, RCX, RDX, RBX, RSP, RBP, RSI, RDI, R8 to R15, 8 bytes each; RIP; RFLAGS; CPL (0 to 3); control bits; zeros. */
-#define KEYLOCKER_CPU_XMM 0
-#define KEYLOCKER_CPU_REGISTERS (KEYLOCKER_CPU_XMM + 16 * 16)
+ * XMM0 to XMM15, 16 bytes each, byte 0 of a register first; RAX, RCX, RDX, RBX, RSP, RBP, RSI, RDI, R8 to R15, 8 bytes each; RIP; RFLAGS;
+ * CPL (0 to 3); control bits; zeros. It is the host's: no call but keylocker_step looks at it, and sleep and reset leave it. */
+#define KEYLOCKER_CPU_XMM 0                                   /* XMM0; XMM n is 16 n further on */
+#define KEYLOCKER_CPU_REGISTERS (KEYLOCKER_CPU_XMM + 16 * 16) /* RAX; register n, by the numbers below, is 8 n further on */
 #define KEYLOCKER_CPU_RIP (KEYLOCKER_CPU_REGISTERS + 16 * 8)
 #define KEYLOCKER_CPU_RFLAGS (KEYLOCKER_CPU_RIP + 8)
 #define KEYLOCKER_CPU_CPL (KEYLOCKER_CPU_RFLAGS + 8)
 #define KEYLOCKER_CPU_CONTROL (KEYLOCKER_CPU_CPL + 1)
 #define KEYLOCKER_CPU_ZEROS (KEYLOCKER_CPU_CONTROL + 1)
-#define KEYLOCKER_CPU_SIZE (KEYLOCKER_CPU_ZEROS + 6)
+#define KEYLOCKER_CPU_SIZE (KEYLOCKER_CPU_ZEROS + 6) /* 408 */
 
-/* control bits */
-#define KEYLOCKER_CONTROL_CR4_KL 0x01
-#define KEYLOCKER_CONTROL_CR4_OSFXSR 0x02
-#define KEYLOCKER_CONTROL_CR0_EM 0x04
-#define KEYLOCKER_CONTROL_CR0_TS 0x08
+/* numbers of the general registers; R8 to R15 are 8 to 15 */
+#define KEYLOCKER_RAX 0
+#define KEYLOCKER_RCX 1
+#define KEYLOCKER_RDX 2
+#define KEYLOCKER_RBX 3
+#define KEYLOCKER_RSP 4
+#define KEYLOCKER_RBP 5
+#define KEYLOCKER_RSI 6
+#define KEYLOCKER_RDI 7
 
-/* the six flags that the instructions write in RFLAGS */
+/* control bits; bits 4 to 7 are zero */
+#define KEYLOCKER_CONTROL_CR4_KL 0x01     /* needed by every instruction */
+#define KEYLOCKER_CONTROL_CR4_OSFXSR 0x02 /* needed by every instruction */
+#define KEYLOCKER_CONTROL_CR0_EM 0x04     /* #UD */
+#define KEYLOCKER_CONTROL_CR0_TS 0x08     /* #NM */
+
+/* the six flags that the instructions write in RFLAGS; all but ZF become 0 */
 #define KEYLOCKER_RFLAGS_CF 0x001
 #define KEYLOCKER_RFLAGS_PF 0x004
 #define KEYLOCKER_RFLAGS_AF 0x010
@@ -75,15 +115,26 @@ extern "C" {
 #define KEYLOCKER_RFLAGS_SF 0x080
 #define KEYLOCKER_RFLAGS_OF 0x800
 
-/* ---- handles, memory and random data ---- */
+/* ---- handles, memory and random data ----
+ *
+ * A handle is 16 bytes of AAD (restrictions and key type), a tag of 16 bytes, and the encrypted key. */
 #define KEYLOCKER_HANDLE_128_SIZE 48
 #define KEYLOCKER_HANDLE_256_SIZE 64
 #define KEYLOCKER_MEMORY_LIMIT 1048576
-#define KEYLOCKER_RANDOM_SIZE 48
+#define KEYLOCKER_RANDOM_SIZE 48 /* XORed into the encryption key's low half, its high half, and the integrity key, in this order */
+
+/* restrictions, in ENCODEKEY's source register and in the handle's first byte */
+#define KEYLOCKER_RESTRICT_CPL0_ONLY 0x1
+#define KEYLOCKER_RESTRICT_NO_ENCRYPT 0x2
+#define KEYLOCKER_RESTRICT_NO_DECRYPT 0x4
+
+/* EAX of LOADIWKEY; ENCODEKEY's destination register tells the same of the IWKey that it encoded under */
+#define KEYLOCKER_LOADIWKEY_NO_BACKUP 0x1
+#define KEYLOCKER_LOADIWKEY_RANDOM 0x2 /* key source 1 */
 
 /* ---- answers: the first that applies, in this order ---- */
 #define KEYLOCKER_DONE 0
-#define KEYLOCKER_BAD_MACHINE 1   /* the block's length or contents; at power-on its length, the count or the features */
+#define KEYLOCKER_BAD_MACHINE 1   /* the block's length or contents; at power-on its length, the count (1 to 16) or the features */
 #define KEYLOCKER_BAD_CODE 2      /* settle or wake code unknown */
 #define KEYLOCKER_BAD_PROCESSOR 3 /* processor number not below the count */
 #define KEYLOCKER_BAD_CPU_SIZE 4  /* the CPU record's length */
@@ -92,43 +143,65 @@ extern "C" {
 #define KEYLOCKER_BAD_RANDOM 7    /* random data neither 0 nor KEYLOCKER_RANDOM_SIZE bytes */
 #define KEYLOCKER_BAD_BYTE 8      /* a byte of the string that no instruction has there */
 #define KEYLOCKER_STRING_ENDS 9   /* the string ends inside an instruction */
-#define KEYLOCKER_UD 10           /* #UD */
-#define KEYLOCKER_NM 11           /* #NM */
-#define KEYLOCKER_GP 12           /* #GP(0) */
-#define KEYLOCKER_SS 13           /* #SS(0) */
-#define KEYLOCKER_PF 14           /* #PF */
+#define KEYLOCKER_UD 10           /* #UD: LOCK; KL feature or CR4.KL off; CR0.EM on; CR4.OSFXSR off; firmware feature off (not for LOADIWKEY);
+                                   * wide feature off (for wide forms) */
+#define KEYLOCKER_NM 11           /* #NM: CR0.TS on */
+#define KEYLOCKER_GP 12           /* #GP(0): ENCODEKEY with source bits 31:3; LOADIWKEY at CPL above 0, with EAX bits 31:5, a key source above 1, or
+                                   * NoBackup or key source 1 that the features lack; a handle byte at an address that is not canonical; a backup
+                                   * register at CPL above 0, without the KL or backup feature, unknown, read for written or written for read,
+                                   * or written with bits 63:1 */
+#define KEYLOCKER_SS 13           /* #SS(0): a handle byte at an address that is not canonical, with RSP or RBP as the base */
+#define KEYLOCKER_PF 14           /* #PF: a handle byte outside memory */
+
+/* ---- the calls ---- */
 
 /* Powers the machine on: IWKeys zero, backup and store absent, all bits 0. Of the block only the length is looked at, so it may hold anything before;
  * all of it is written. Answers 0 or KEYLOCKER_BAD_MACHINE. */
 uint32_t keylocker_power_on(uint8_t *machine, size_t machine_len, uint8_t count, uint8_t features);
 
-/* Executes the one instruction that the string begins with, on a processor: ENCODEKEY128/256, AESENC/AESDEC128/256KL, their wide forms, LOADIWKEY.
- * cpu is that processor's CPU record, written where the answer is 0 (RIP then stands behind the instruction). memory is the guest's, address 0 first.
- * random is KEYLOCKER_RANDOM_SIZE bytes for LOADIWKEY with key source 1, or none (length 0) where the random source is not ready.
- * Whether a handle opened, or a key was loaded, is told by ZF: 0 if so. */
+/* Executes the one instruction that the string begins with, on a processor; bytes behind it are not looked at. The string is
+ * F0 (LOCK, which gives #UD) or nothing, F3, a REX byte or nothing, 0F 38, opcode, ModRM, SIB and displacement as Intel has them in 64-bit mode:
+ *   DC, DD, DE, DF with memory   AESENC128KL, AESDEC128KL, AESENC256KL, AESDEC256KL; reg is the block, the handle is in memory
+ *   D8 /0 to /3 with memory      AESENCWIDE128KL, AESDECWIDE128KL, AESENCWIDE256KL, AESDECWIDE256KL on XMM0 to XMM7
+ *   DC with a register           LOADIWKEY: reg SRC1 (encryption key, high half), r/m SRC2 (low half), XMM0 the integrity key, EAX as above
+ *   FA, FB with a register       ENCODEKEY128, ENCODEKEY256: r/m the restrictions, key in XMM0 (and XMM1); the handle goes to XMM0 and up,
+ *                                XMM4 to XMM6 become zero, reg tells NoBackup and key source
+ * cpu is that processor's CPU record, written where the answer is 0; RIP then stands behind the instruction. memory is the guest's, address 0 first, and
+ * never written. random is KEYLOCKER_RANDOM_SIZE bytes for LOADIWKEY with key source 1, or none (length 0) where the random source is not ready.
+ * Answer 0 does not say that a handle opened or a key was loaded: ZF is 0 if so. Where it is 1, blocks and IWKey are as they were. */
 uint32_t keylocker_step(uint8_t *machine, size_t machine_len, uint8_t processor, uint8_t *cpu, size_t cpu_len, const uint8_t *memory, size_t memory_len,
                         const uint8_t *random, size_t random_len, const uint8_t *string, size_t string_len);
 
 /* Backup registers: IA32_COPY_STATUS and IA32_IWKEYBACKUP_STATUS are read, the two copy registers written with 1 (0 does nothing). */
-#define KEYLOCKER_COPY_STATUS 0x990          /* bit 0: the last copy on this processor worked */
-#define KEYLOCKER_IWKEYBACKUP_STATUS 0x991   /* bit 0 valid, 2 error, 3 consumed */
-#define KEYLOCKER_COPY_LOCAL_TO_PLATFORM 0xD91
-#define KEYLOCKER_COPY_PLATFORM_TO_LOCAL 0xD92
+#define KEYLOCKER_COPY_STATUS 0x990
+#define KEYLOCKER_IWKEYBACKUP_STATUS 0x991
+#define KEYLOCKER_COPY_LOCAL_TO_PLATFORM 0xD91 /* backup := the processor's IWKey; fails if that has NoBackup, or a backup is pending */
+#define KEYLOCKER_COPY_PLATFORM_TO_LOCAL 0xD92 /* the processor's IWKey := backup; fails if there is none */
 
-/* *value is written only where the answer is 0. The machine is not written. */
+/* what is read from IA32_COPY_STATUS: whether the last copy on this processor worked */
+#define KEYLOCKER_COPY_STATUS_DONE 0x1
+
+/* what is read from IA32_IWKEYBACKUP_STATUS */
+#define KEYLOCKER_BACKUP_VALID 0x1
+#define KEYLOCKER_BACKUP_ERROR 0x4
+#define KEYLOCKER_BACKUP_CONSUMED 0x8 /* persistent storage has done with it, well or badly; a sleep clears it */
+
+/* cpl is the CPL that the register is read or written at; all but 0 are refused. *value is written only where the answer is 0. The machine is not written. */
 uint32_t keylocker_read(const uint8_t *machine, size_t machine_len, uint8_t processor, uint8_t cpl, uint32_t address, uint64_t *value);
 
+/* A copy that fails is no refusal: the answer is 0, and IA32_COPY_STATUS tells. */
 uint32_t keylocker_write(uint8_t *machine, size_t machine_len, uint8_t processor, uint8_t cpl, uint32_t address, uint64_t value);
 
-/* The persistent storage has taken the backup that is pending, or has failed. Does nothing where none is pending. */
+/* Persistent storage has taken the backup that is pending, or has failed and holds nothing. Does nothing where none is pending. */
 #define KEYLOCKER_SETTLE_GOOD 0
 #define KEYLOCKER_SETTLE_BAD 1
 uint32_t keylocker_settle(uint8_t *machine, size_t machine_len, uint8_t code);
 
-/* Sleep and wake: IWKeys and copy statuses become zero; the code tells what the storage kept of a backup that was pending. */
-#define KEYLOCKER_WAKE_OLD 0
-#define KEYLOCKER_WAKE_NEW 1
-#define KEYLOCKER_WAKE_JUNK 2
+/* Sleep and wake: IWKeys and copy statuses become zero, and the backup what persistent storage holds. The code tells what that kept of a backup
+ * that was pending; where none was, old and new leave the storage as it is. */
+#define KEYLOCKER_WAKE_OLD 0  /* what it had before */
+#define KEYLOCKER_WAKE_NEW 1  /* the backup that was pending */
+#define KEYLOCKER_WAKE_JUNK 2 /* nothing that can be used, pending or not: backup and store are absent then */
 uint32_t keylocker_sleep(uint8_t *machine, size_t machine_len, uint8_t code);
 
 /* As power-on, with the same count and features. */

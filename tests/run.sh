@@ -7,5 +7,5 @@ python3 tests/vectors_stdout.py --check
 python3 tests/key_locker.py
 python3 tests/decoder.py --check
 python3 tests/scenarios.py --check
-make test-host test-valgrind test-faults
+make test-host test-valgrind test-faults test-simulator
 exec rt ci

@@ -1,0 +1,55 @@
+#include "bytes.h"
+
+#include <stdio.h>
+#include <stdlib.h>
+#include <string.h>
+
+void *allocate(void *old, size_t size)
+{
+    void *p = realloc(old, size);
+    if (p == NULL) {
+        fflush(stdout);
+        fputs("keylocker-simulator: out of memory\n", stderr);
+        exit(2);
+    }
+    return p;
+}
+
+void bytes_reserve(struct bytes *b, size_t more)
+{
+    if (more <= b->room - b->len)
+        return;
+    b->room = 2 * (b->len + more);
+    b->data = allocate(b->data, b->room);
+}
+
+void bytes_append(struct bytes *b, const uint8_t *data, size_t len)
+{
+    bytes_reserve(b, len);
+    if (len > 0)
+        memcpy(b->data + b->len, data, len);
+    b->len += len;
+}
+
+void bytes_assign(struct bytes *b, const uint8_t *data, size_t len)
+{
+    b->len = 0;
+    bytes_append(b, data, len);
+}
+
+void bytes_free(struct bytes *b)
+{
+    free(b->data);
+    *b = (struct bytes){0};
+}
+
+/* A table, because the digits of keys and blocks are what a branch predicts worst. Values are one too large, so that 0 is "none". */
+static const uint8_t digit_values[256] = {
+    ['0'] = 1,  ['1'] = 2,  ['2'] = 3,  ['3'] = 4,  ['4'] = 5,  ['5'] = 6,  ['6'] = 7,  ['7'] = 8,  ['8'] = 9,  ['9'] = 10, ['a'] = 11,
+    ['b'] = 12, ['c'] = 13, ['d'] = 14, ['e'] = 15, ['f'] = 16, ['A'] = 11, ['B'] = 12, ['C'] = 13, ['D'] = 14, ['E'] = 15, ['F'] = 16,
+};
+
+int hex_digit(char c)
+{
+    return digit_values[(uint8_t)c] - 1;
+}

@@ -1,0 +1,126 @@
+#include "expect.h"
+
+#include <inttypes.h>
+#include <stdio.h>
+#include <string.h>
+
+#include "print.h"
+#include "record.h"
+#include "value.h"
+
+/* Counts and prints the expectation; where it is not met, the caller says what was found. */
+static bool unmet(struct simulator *s, bool met)
+{
+    s->counts.expects++;
+    print_expectation(s, met);
+    if (!met && s->counts.unmet++ == 0)
+        s->counts.first_unmet = s->line.number;
+    return !met;
+}
+
+static void need_call(const struct simulator *s)
+{
+    if (s->last.call == CALL_NONE)
+        bad_line(&s->line, "expected a call before what is expected of it");
+}
+
+static void say_answer(const struct simulator *s)
+{
+    if (s->last.answer == KEYLOCKER_DONE)
+        puts("the last call was done");
+    else
+        printf("the last call was refused, %u\n", (unsigned)s->last.answer);
+}
+
+static void expect_answer(struct simulator *s, uint32_t answer)
+{
+    take_end(&s->line);
+    need_call(s);
+    if (unmet(s, s->last.answer == answer))
+        say_answer(s);
+}
+
+static bool was_step(const struct simulator *s)
+{
+    return s->last.call == CALL_LOAD || s->last.call == CALL_ENCODE || s->last.call == CALL_USE || s->last.call == CALL_UNKNOWN_STEP;
+}
+
+static void expect_zf(struct simulator *s)
+{
+    uint64_t zf = take_number(&s->line, "ZF", 1);
+    take_end(&s->line);
+    if (!was_step(s))
+        bad_line(&s->line, "expected an instruction as the last call before 'expect zf'");
+    bool done = s->last.answer == KEYLOCKER_DONE;
+    if (!unmet(s, done && s->last.zf == zf))
+        return;
+    if (done)
+        printf("ZF is %u\n", s->last.zf);
+    else
+        say_answer(s);
+}
+
+static void expect_value(struct simulator *s)
+{
+    uint64_t value = take_number(&s->line, "the value read", UINT64_MAX);
+    take_end(&s->line);
+    if (s->last.call != CALL_READ)
+        bad_line(&s->line, "expected a read as the last call before 'expect value'");
+    bool done = s->last.answer == KEYLOCKER_DONE;
+    if (!unmet(s, done && s->last.value == value))
+        return;
+    if (done)
+        printf("the value is %" PRIu64 "\n", s->last.value);
+    else
+        say_answer(s);
+}
+
+static void expect_register(struct simulator *s, const struct field *field)
+{
+    take_keyword(&s->line, "=");
+    uint64_t value = take_number(&s->line, "the register's value", UINT64_MAX);
+    take_end(&s->line);
+    uint64_t found = get_field(&s->cpus[s->processor], field);
+    if (unmet(s, found == value))
+        printf("%s is 0x%" PRIx64 "\n", field->name, found);
+}
+
+static void expect_bytes(struct simulator *s)
+{
+    take_bytes(s, "done, refused, zf, value or bytes", &s->left);
+    take_keyword(&s->line, "=");
+    take_bytes(s, "bytes", &s->right);
+    take_end(&s->line);
+    bool same = s->left.len == s->right.len && memcmp(s->left.data, s->right.data, s->left.len) == 0;
+    if (!unmet(s, same))
+        return;
+    fputs("found ", stdout);
+    put_hex_cut(s->left.data, s->left.len);
+    putchar('\n');
+}
+
+void run_expect(struct simulator *s)
+{
+    if (accept(&s->line, "done")) {
+        expect_answer(s, KEYLOCKER_DONE);
+    } else if (accept(&s->line, "refused")) {
+        uint64_t number = take_number(&s->line, "a refusal", KEYLOCKER_PF);
+        if (number == KEYLOCKER_DONE)
+            bad_line(&s->line, "expected a refusal from 1 to %d; 0 is 'expect done'", KEYLOCKER_PF);
+        expect_answer(s, (uint32_t)number);
+    } else if (accept(&s->line, "zf")) {
+        expect_zf(s);
+    } else if (accept(&s->line, "value")) {
+        expect_value(s);
+    } else {
+        const struct field *field = at_end(&s->line) ? NULL : register_named(s->line.words[s->line.next]);
+        if (field == NULL) {
+            expect_bytes(s);
+            return;
+        }
+        if (s->processor < 0)
+            bad_line(&s->line, "'%s' belongs to a processor; expected cpu N before the statement", field->name);
+        s->line.next++;
+        expect_register(s, field);
+    }
+}

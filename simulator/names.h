@@ -1,0 +1,36 @@
+/* The names that a trace gives to byte strings. */
+#ifndef NAMES_H
+#define NAMES_H
+
+#include <stdbool.h>
+#include <stddef.h>
+#include <stdint.h>
+
+#include "bytes.h"
+
+struct name {
+    char *text;
+    size_t len;
+    uint64_t hash;
+    struct bytes value;
+    bool has_value; /* not where the call that should have given it gave none */
+    bool is_iwkey;
+    size_t line; /* where it was last given */
+};
+
+struct names {
+    struct name **all; /* in the order in which the trace first gave them */
+    size_t count, room;
+    size_t *slots; /* a hash table of places in all, plus 1; 0 is free */
+    size_t slot_count;
+};
+
+/* None where there is no such name. */
+struct name *names_find(const struct names *names, const char *text, size_t len);
+
+/* The name, made without a value where there was none. It stays where it is. */
+struct name *names_get(struct names *names, const char *text, size_t len);
+
+void names_free(struct names *names);
+
+#endif

@@ -1,0 +1,75 @@
+/* The state of a run: one emulated machine, the CPU records of its processors, guest memory, and the names of the trace. */
+#ifndef SIMULATOR_H
+#define SIMULATOR_H
+
+#include <stdbool.h>
+#include <stddef.h>
+#include <stdint.h>
+
+#include "bytes.h"
+#include "keylocker.h"
+#include "line.h"
+#include "names.h"
+
+/* A processor number is one byte. Those past the count have a record too, so that a trace can see them refused. */
+#define CPUS 256
+
+/* Longer than the CPU record, so that a trace can lend one of a wrong length. */
+#define RECORD_ROOM 512
+
+/* One byte more than the library takes, for the same reason. */
+#define MEMORY_ROOM (KEYLOCKER_MEMORY_LIMIT + 1)
+
+/* Where the mnemonics put the handle that they use: the last bytes of guest memory. */
+#define HANDLE_PLACE (KEYLOCKER_MEMORY_LIMIT - KEYLOCKER_HANDLE_256_SIZE)
+
+/* The longest byte string. */
+#define BYTES_LIMIT ((size_t)2 * MEMORY_ROOM)
+
+struct cpu {
+    uint8_t record[RECORD_ROOM];
+    size_t len; /* of the record that is lent */
+};
+
+enum call { CALL_NONE, CALL_POWER_ON, CALL_LOAD, CALL_ENCODE, CALL_USE, CALL_UNKNOWN_STEP, CALL_READ, CALL_WRITE, CALL_SETTLE, CALL_SLEEP, CALL_RESET };
+
+/* What the last call of the library answered, for expect. */
+struct last {
+    enum call call;
+    uint32_t answer;
+    unsigned zf;
+    uint64_t value;
+};
+
+struct counts {
+    size_t calls, refused, expects, unmet;
+    size_t first_unmet; /* its line */
+};
+
+struct simulator {
+    struct line line;
+    struct names names;
+    struct bytes machine; /* KEYLOCKER_MACHINE_SIZE bytes unless the trace lends others */
+    struct cpu *cpus;
+    unsigned touched; /* processors from here on have fresh records */
+    uint8_t *memory;
+    size_t memory_len;
+    int processor; /* of the statement, or -1 */
+    int cpl;       /* given for the statement alone, or -1 */
+    struct bytes left, right, hexadecimal; /* byte strings of the statement */
+    struct last last;
+    struct counts counts;
+    bool quiet;
+    bool printed, said; /* anything so far; a text by say just before */
+};
+
+void simulator_init(struct simulator *s, const char *file, bool quiet);
+void simulator_free(struct simulator *s);
+
+/* Runs one line. */
+void run_line(struct simulator *s, const char *text, size_t len);
+
+/* The records as at power-on: CPL 0, CR4.KL and CR4.OSFXSR set, the rest zero but bit 1 of RFLAGS, which is always 1. */
+void fresh_cpus(struct simulator *s);
+
+#endif
