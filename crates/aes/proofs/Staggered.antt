@@ -2,18 +2,16 @@
 -- Assumes nothing.
 use mathlib.Core.Path.{_≡_, refl, sym, ap, ap₂, _∙_}
 use mathlib.Core.List.{List, [], _∷_, _++_, map, map-map, map-id}
-use Prim.Native.Nat.{ℕ, _<_}
+use Prim.Native.Nat.{ℕ}
 use lib.Bits.{bitXor, xor-comm}
 use lib.ListN.{getD, take, drop}
 use Rattle.bits.specs.Bytes.{xorBytes}
 use Rattle.bits.specs.Words.{leBytes}
-use Rattle.bits.proofs.Lists.{cons, list4, bytes-at}
-use Rattle.bits.proofs.Words.{le-xor, le-bytes}
+use Rattle.bits.proofs.Lists.{cons, list4}
+use Rattle.bits.proofs.Words.{le-xor}
 use Rattle.bits.proofs.Xor.{xor-assoc}
-use Rattle.bits.proofs.Field.{timesX-xor}
-use Rattle.fips197.proofs.Field.{gf256}
 use Rattle.bits.specs.Polynomials.{multiplyBits}
-use Rattle.fips197.specs.Field.{xtime, multiply}
+use Rattle.fips197.specs.Field.{multiply}
 use Rattle.fips197.specs.Cipher.{matrixRow, mixRow}
 use Rattle.fips197.specs.InvCipher.{invMixRow}
 use Rattle.fips197.specs.KeyExpansion.{rotWord}
@@ -90,32 +88,9 @@ products n x x2 x4 x8 e f g =
       by9 = sum n x x8 x (by 8) (by 1) e8 e1;
     }
 
--- 2 p + 3 q + r + s, as 2 (p + q) + q + (r + s)
-row : (p q r s : ℕ) → p < 256 → q < 256
-    → bitXor (bitXor (multiply (bitXor p q) 2) q) (bitXor r s) ≡ bitXor (bitXor (bitXor (multiply p 2) (multiply q 3)) (multiply r 1)) (multiply s 1)
-unfolding multiplyBits
-row p q r s hp hq =
-    ap (λ (n : ℕ). bitXor (bitXor n q) (bitXor r s)) (timesX-xor gf256 p q hp hq)
-    ∙ ap (λ (n : ℕ). bitXor n (bitXor r s)) (xor-assoc (xtime p) (xtime q) q)
-    ∙ sym (xor-assoc (bitXor (xtime p) (bitXor (xtime q) q)) r s)
-
-rows : (x : ℕ)
-    → xorBytes (xorBytes (scaled 2 (xorBytes (leBytes 4 x) (rotWord (leBytes 4 x)))) (rotWord (leBytes 4 x))) (rotWord (rotWord (xorBytes (leBytes 4 x) (rotWord (leBytes 4 x)))))
-    ≡ staggered (scaled 2 (leBytes 4 x)) (scaled 3 (leBytes 4 x)) (scaled 1 (leBytes 4 x)) (scaled 1 (leBytes 4 x))
-unfolding staggered scaled rotWord
-rows x =
-    let b : ℕ → ℕ = λ i. getD (leBytes 4 x) i 0 in
-    let h : (i : ℕ) → b i < 256 = λ i. bytes-at (leBytes 4 x) (le-bytes 4 x) i in
-    list4 (row (b 0) (b 1) (b 2) (b 3) (h 0) (h 1)) (row (b 1) (b 2) (b 3) (b 0) (h 1) (h 2))
-    (row (b 2) (b 3) (b 0) (b 1) (h 2) (h 3)) (row (b 3) (b 0) (b 1) (b 2) (h 3) (h 0))
-
-pub mixes : (x y d z : ℕ) → leBytes 4 y ≡ rotWord (leBytes 4 x) → leBytes 4 z ≡ rotWord (rotWord (leBytes 4 (bitXor x y))) → Times 4 2 (bitXor x y) d
-    → leBytes 4 (bitXor (bitXor d y) z) ≡ mixed mixRow (leBytes 4 x)
-mixes x y d z e g h =
-    let t : leBytes 4 (bitXor x y) ≡ xorBytes (leBytes 4 x) (rotWord (leBytes 4 x)) = le-xor 4 x y ∙ ap (xorBytes (leBytes 4 x)) e in
-    le-xor 4 (bitXor d y) z
-    ∙ ap₂ xorBytes (le-xor 4 d y ∙ ap₂ xorBytes (h ∙ ap (scaled 2) t) e) (g ∙ ap (λ (l : List ℕ). rotWord (rotWord l)) t)
-    ∙ rows x ∙ staggers 2 3 1 1 x
+pub mixes : (x x2 : ℕ) → Times 4 2 x x2 → staggered (leBytes 4 x2) (leBytes 4 (bitXor x2 x)) (leBytes 4 x) (leBytes 4 x) ≡ mixed mixRow (leBytes 4 x)
+unfolding scaled multiplyBits
+mixes x x2 e = product 2 3 1 1 x e (sum 4 x x2 x (λ b. multiply b 2) (λ b. b) e (by-one 4 x)) (by-one 4 x) (by-one 4 x)
 
 pub inv-mixes : (x x2 x4 x8 : ℕ) → Times 4 2 x x2 → Times 4 2 x2 x4 → Times 4 2 x4 x8
     → staggered (leBytes 4 (bitXor (bitXor x8 x4) x2)) (leBytes 4 (bitXor (bitXor x8 x2) x)) (leBytes 4 (bitXor (bitXor x8 x4) x)) (leBytes 4 (bitXor x8 x))

@@ -48,13 +48,11 @@ fn stagger(a: u32, b: u32, c: u32, d: u32) -> u32
     a ^ rot_word(b) ^ rot_word(rot_word(c)) ^ rot_word(rot_word(rot_word(d)))
 }
 
-// 2 a + 3 b + c + d is 2 (a + b) + b + (c + d): one word doubled, and two turned.
 pub fn mix_column(x: u32) -> u32
     ensures { λ r. ⌜ leBytes 4 r ≡ mixed mixRow (leBytes 4 x) ⌝ }
 {
-    let y = rot_word(x);
-    let t = x ^ y;
-    xtime(t) ^ y ^ rot_word(rot_word(t))
+    let x2 = xtime(x);
+    stagger(x2, x2 ^ x, x, x)
 }
 
 pub fn inv_mix_column(x: u32) -> u32
