@@ -1,7 +1,7 @@
 # make           build what make install installs, in build/: the library, its pkg-config file and the simulator
 # make install   install them and the header below $(DESTDIR)$(PREFIX); PREFIX is /usr/local unless given
 # make demo      run the simulator's built-in scenario
-# make bench     measure the proved libraries against AES and key wrapping in C
+# make bench     measure the proved libraries against AES, key wrapping and the cryptography of whole calls in C
 # make examples  print the papers' examples, computed by the proved libraries
 # make test      all tests, as tests/run.sh has them
 # make test-decoder  compare the proved decoder with GNU objdump, on about a million strings
@@ -20,7 +20,9 @@ SOURCES := crates.txt $(shell find crates -name '*.rt' -o -name '*.antt')
 HEADERS := $(wildcard bench/*.h)
 BASELINE = measure aes_bytes aes_ttables
 AES = aes $(BASELINE)
-KEYWRAP = keywrap keywrap_bytes keywrap_ttables $(BASELINE)
+WRAPPING = keywrap_bytes keywrap_ttables $(BASELINE)
+KEYWRAP = keywrap $(WRAPPING)
+KEYLOCKER = keylocker $(WRAPPING)
 
 .PHONY: all install demo bench examples test test-decoder test-machine test-simulator clean always
 
@@ -68,19 +70,22 @@ test-simulator: all
 
 # ---- measuring
 
-bench: build/bench_aes build/bench_keywrap
+bench: build/bench_aes build/bench_keywrap build/bench_keylocker
 	./build/bench_aes
 	@echo
 	./build/bench_keywrap
+	@echo
+	./build/bench_keylocker
 
 build/bench_aes: $(AES:%=build/%.o) target/staticlib/libaes_c.a
 build/bench_keywrap: $(KEYWRAP:%=build/%.o) target/staticlib/libkeywrap_c.a
+build/bench_keylocker: $(KEYLOCKER:%=build/%.o) target/staticlib/libkeylocker.a
 build/bench_%:
 	$(CC) $(CFLAGS) -o $@ $^ -lm
 
-build/%.o: bench/%.c $(HEADERS)
+build/%.o: bench/%.c $(HEADERS) include/keylocker.h
 	@mkdir -p build
-	$(CC) $(CFLAGS) -c -o $@ $<
+	$(CC) $(CFLAGS) -Iinclude -c -o $@ $<
 
 target/staticlib/lib%.a: $(SOURCES)
 	rt staticlib $*

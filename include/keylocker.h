@@ -15,8 +15,7 @@
  * The caller need not check anything: every combination of arguments gets an answer. Lengths, contents and numbers are checked by the call, none is
  * assumed, and byte buffers need no alignment. What the caller owes is valid C:
  *   - behind each pointer at least as many bytes as the length says, and a uint64_t behind value; a null pointer only with length 0;
- *   - a buffer that the call may write (machine, except in keylocker_read; cpu; value) overlaps no other buffer of the call. Those that are only read
- *     (memory, random, string) may overlap each other: the string may lie in guest memory;
+ *   - no two buffers of a call overlap (a string that lies in guest memory is copied first);
  *   - no other thread uses a buffer while a call may write it.
  * The library keeps nothing between calls and allocates nothing, so different machines may be used by different threads at the same time.
  *

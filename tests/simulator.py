@@ -495,9 +495,9 @@ def test_install(tmp):
 
 
 def test_readme(tmp):
-    """A program in C that README shows is tests/example.c."""
-    for shown in re.findall(r"```c\n(.*?)```", (ROOT / "README.md").read_text(), re.S):
-        need(shown == EXAMPLE.read_text(), "README shows another program than tests/example.c")
+    """The program in C that README shows is tests/example.c."""
+    shown = re.findall(r"```c\n(.*?)```", (ROOT / "README.md").read_text(), re.S)
+    need(shown == [EXAMPLE.read_text()], "README does not show tests/example.c, or another program")
 
 
 def main():
