@@ -242,8 +242,9 @@ static double slice_ns(int core, const struct row *row, size_t reps)
 
 // ---- the figures
 
-static void print_label(const struct row *row)
+static const char *label_of(const struct row *row)
 {
+    static char label[64];
     static const char *const names[OPS] = {
         [ENCODE] = "ENCODEKEY%d",          [ENCRYPT] = "AESENC%dKL",
         [DECRYPT] = "AESDEC%dKL",          [ENCRYPT_WIDE] = "AESENCWIDE%dKL",
@@ -251,13 +252,13 @@ static void print_label(const struct row *row)
         [WRITE] = "write 0xD92",           [READ] = "read 0x990",
         [BAD_STRING] = "a string refused", [ILLEGAL] = "AESENC%dKL, illegal handle",
     };
-    char label[64], form[64];
+    char form[64];
     snprintf(form, sizeof form, "%s%s", names[row->op], row->count == 1 ? ", 1 processor" : "");
     snprintf(label, sizeof label, form, key_bits(row->size));
-    printf("%-31s", label);
+    return label;
 }
 
-static const struct bar bars[] = {{"encode, use", 0, BYTES, 0.70}};
+static const struct bar bar = {"encode, use", 0, BYTES, 0.70};
 static const struct bar goal = {"encode, use", 0, TTABLES, 1.00};
 
 // All of a use but its cryptography is what one takes whose handle is illegal: it is read, and not unwrapped.
@@ -297,18 +298,15 @@ int main(void)
     measure_all(others, other, slice_ns);
     print_head("ns per call, of 16 processors");
     for (size_t i = 0; i < count; i++) {
-        print_label(&rows[i]);
+        printf("%-31s", label_of(&rows[i]));
         print_figures(&rows[i]);
     }
     for (size_t i = 0; i < other; i++) {
-        print_label(&others[i]);
-        printf("%11.1f\n", others[i].ns[PROVED]);
+        printf("%-42s%.1f\n", label_of(&others[i]), others[i].ns[PROVED]);
     }
     puts("");
-    print_label(print_bar(&bars[0], rows, count, "pass", "MISSED"));
-    puts("");
-    print_label(print_bar(&goal, rows, count, "goal met", "goal not met"));
-    puts("");
+    puts(label_of(print_bar(&bar, rows, count, "pass", "MISSED")));
+    puts(label_of(print_bar(&goal, rows, count, "goal met", "goal not met")));
     print_rest(&others[0], &rows[2]);
     return 0;
 }
