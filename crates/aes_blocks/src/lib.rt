@@ -8,12 +8,13 @@ ghost use Rattle.fips197.specs.Sbox.{sbox, invSbox, TableOf};
 ghost use Rattle.fips197.specs.Cipher.{subBytes, shiftRows, mixRow, mixColumns, addRoundKey, cipher};
 ghost use Rattle.fips197.specs.Cipher as fips;
 ghost use Rattle.fips197.specs.InvCipher.{invSubBytes, invShiftRows, invMixRow, invMixColumns, invRound, invCipher};
-ghost use Rattle.aes_blocks.specs.Tables.{MixTable, InvMixed};
+ghost use Rattle.aes_blocks.specs.Tables.{Products, MixTable, InvMixed};
 ghost use Rattle.aes.specs.Form.{bytesOf, nr, schedule};
 
 pub mod tables;
 
 use crate::tables::fill_table;
+use crate::tables::inv_products;
 use crate::tables::table_column;
 use aes::Block;
 use aes::Direction;
@@ -205,4 +206,51 @@ pub fn decrypt_blocks(size: KeySize, w: &[u32; 60], bytes: &mut [u8])
     fill_table(Direction::Decrypt, &u, &mut t);
     let v = inv_mixed_keys(w, rounds(size));
     decrypt_blocks_with(&t, &u, &v, size, w, bytes);
+}
+
+// ---- one block deciphered: neither the S-box in the table nor mixed round keys would pay
+
+fn inv_mix_by(m: &[u32; 256], s: Block) -> Block
+    requires { ⌜ Products invMixRow 256 (now m) ⌝ }
+    ensures { λ r. ⌜ bytesOf r ≡ invMixColumns (bytesOf s) ⌝ }
+{
+    Block {
+        a: table_column(m, s.a, s.a, s.a, s.a),
+        b: table_column(m, s.b, s.b, s.b, s.b),
+        c: table_column(m, s.c, s.c, s.c, s.c),
+        d: table_column(m, s.d, s.d, s.d, s.d),
+    }
+}
+
+fn inv_round_by(m: &[u32; 256], u: &[u8; 256], s: Block, k: Block) -> Block
+    requires { ⌜ Products invMixRow 256 (now m) ⌝ }
+    requires { ⌜ TableOf invSbox (now u) ⌝ }
+    ensures { λ r. ⌜ bytesOf r ≡ invRound (bytesOf s) (bytesOf k) ⌝ }
+{
+    inv_mix_by(m, inv_final_round(u, s, k))
+}
+
+fn inv_cipher_by(m: &[u32; 256], u: &[u8; 256], w: &[u32; 60], n: usize, b: Block) -> Block
+    requires { ⌜ Products invMixRow 256 (now m) ⌝ }
+    requires { ⌜ TableOf invSbox (now u) ⌝ }
+    requires { ⌜ (1 ≤ n) × (n ≤ 14) ⌝ }
+    ensures { λ r. ⌜ bytesOf r ≡ invCipher (leWords 4 (now (w .entry))) n (bytesOf b) ⌝ }
+{
+    let mut s = add_round_key(b, round_key(w, n));
+    let mut i: usize = n - 1;
+    while 0 < i {
+        let x = inv_round_by(m, u, s, round_key(w, i));
+        s = x;
+        i -= 1;
+    }
+    inv_final_round(u, s, round_key(w, 0))
+}
+
+pub fn decrypt_block(size: KeySize, w: &[u32; 60], b: Block) -> Block
+    ensures { λ r. ⌜ bytesOf r ≡ invCipher (schedule size (now (w .entry))) (nr size) (bytesOf b) ⌝ }
+{
+    let u = inverse_table();
+    let mut m = [0u32; 256];
+    inv_products(&mut m);
+    inv_cipher_by(&m, &u, w, rounds(size), b)
 }

@@ -32,7 +32,7 @@ fn double_products(m: &mut [u32; 256], k: usize, x: u32)
 }
 
 // Column 0 of the inverse matrix, times each byte.
-fn inv_products(m: &mut [u32; 256])
+pub fn inv_products(m: &mut [u32; 256])
     requires { ⌜ length (now m) ≡ 256 ⌝ }
     requires { ⌜ getD (now m) 0 0 ≡ 0 ⌝ }
     ensures { λ _. ⌜ Products invMixRow 256 (now (m .exit)) ⌝ }
