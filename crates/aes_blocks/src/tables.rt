@@ -31,20 +31,20 @@ fn double_products(m: &mut [u32; 256], k: usize, x: u32)
     }
 }
 
-// Column 0 of the inverse matrix, times each byte.
+// Column 0 of the inverse matrix, times each byte. The steps are written out: with numbers known, the compiler makes less of them.
 pub fn inv_products(m: &mut [u32; 256])
     requires { ⌜ length (now m) ≡ 256 ⌝ }
     requires { ⌜ getD (now m) 0 0 ≡ 0 ⌝ }
     ensures { λ _. ⌜ Products invMixRow 256 (now (m .exit)) ⌝ }
 {
-    let mut k: usize = 1;
-    let mut e: usize = 0;
-    while e < 8 {
-        let x = inv_mix_column(k as u32);
-        double_products(m, k, x);
-        k = 2 * k;
-        e += 1;
-    }
+    double_products(m, 1, inv_mix_column(1));
+    double_products(m, 2, inv_mix_column(2));
+    double_products(m, 4, inv_mix_column(4));
+    double_products(m, 8, inv_mix_column(8));
+    double_products(m, 16, inv_mix_column(16));
+    double_products(m, 32, inv_mix_column(32));
+    double_products(m, 64, inv_mix_column(64));
+    double_products(m, 128, inv_mix_column(128));
 }
 
 fn product(m: &[u32; 256], s: u8) -> u32
