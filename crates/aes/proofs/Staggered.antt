@@ -1,10 +1,10 @@
 -- The staggered sum is the product with the matrix, whatever its row.
 -- Assumes nothing.
 use mathlib.Core.Path.{_≡_, refl, sym, ap, ap₂, _∙_}
-use mathlib.Core.List.{List, [], _∷_, _++_, map, map-map, map-id}
+use mathlib.Core.List.{List, [], _∷_, map, map-map, map-id}
 use Prim.Native.Nat.{ℕ}
 use lib.Bits.{bitXor, xor-comm}
-use lib.ListN.{getD, take, drop}
+use lib.ListN.{getD}
 use Rattle.bits.specs.Bytes.{xorBytes}
 use Rattle.bits.specs.Words.{leBytes}
 use Rattle.bits.proofs.Lists.{cons, list4}
@@ -16,8 +16,6 @@ use Rattle.fips197.specs.Cipher.{matrixRow, mixRow}
 use Rattle.fips197.specs.InvCipher.{invMixRow}
 use Rattle.fips197.specs.KeyExpansion.{rotWord}
 use Rattle.aes.specs.Columns.{scaled, staggered, mixed}
-use Rattle.aes.specs.Form.{pairBytes}
-use Rattle.aes.specs.declared.Pair.{Pair}
 
 -- the last of four terms put first
 turn : (a b c d : ℕ) → bitXor (bitXor (bitXor a b) c) d ≡ bitXor (bitXor (bitXor d a) b) c
@@ -98,24 +96,3 @@ pub inv-mixes : (x x2 x4 x8 : ℕ) → Times 4 2 x x2 → Times 4 2 x2 x4 → Ti
 inv-mixes x x2 x4 x8 e f g =
     let p = products 4 x x2 x4 x8 e f g in
     product 14 11 13 9 x (p .by14) (p .by11) (p .by13) (p .by9)
-
--- the same of two columns a and b side by side in x
-module _ (a b x x2 x4 x8 : ℕ) (s : leBytes 8 x ≡ leBytes 4 a ++ leBytes 4 b) where
-  parts : (k : ℕ) (p : Pair) → pairBytes p ≡ scaled k (leBytes 8 x) → Times 4 k a (p .low) × Times 4 k b (p .high)
-  unfolding scaled
-  parts k p h =
-      let l = h ∙ ap (scaled k) s in
-      (ap (take 4) l, ap (drop 4) l)
-
-  pub inv-mixes-pair : (p q r t : Pair) → Times 8 2 x x2 → Times 8 2 x2 x4 → Times 8 2 x4 x8
-      → pairBytes p ≡ leBytes 8 (bitXor (bitXor x8 x4) x2) → pairBytes q ≡ leBytes 8 (bitXor (bitXor x8 x2) x)
-      → pairBytes r ≡ leBytes 8 (bitXor (bitXor x8 x4) x) → pairBytes t ≡ leBytes 8 (bitXor x8 x)
-      → (staggered (leBytes 4 (p .low)) (leBytes 4 (q .low)) (leBytes 4 (r .low)) (leBytes 4 (t .low)) ≡ mixed invMixRow (leBytes 4 a))
-      × (staggered (leBytes 4 (p .high)) (leBytes 4 (q .high)) (leBytes 4 (r .high)) (leBytes 4 (t .high)) ≡ mixed invMixRow (leBytes 4 b))
-  inv-mixes-pair p q r t e f g hp hq hr ht =
-      let m = products 8 x x2 x4 x8 e f g in
-      let u = parts 14 p (hp ∙ m .by14) in
-      let v = parts 11 q (hq ∙ m .by11) in
-      let w = parts 13 r (hr ∙ m .by13) in
-      let z = parts 9 t (ht ∙ m .by9) in
-      (product 14 11 13 9 a (u .0) (v .0) (w .0) (z .0), product 14 11 13 9 b (u .1) (v .1) (w .1) (z .1))

@@ -5,7 +5,6 @@ use Prim.Native.Nat.{ℕ, _+_, _*_}
 use lib.ListN.{take}
 use Rattle.bits.specs.Words.{leBytes, leWords}
 use Rattle.aes.specs.declared.Block.{Block}
-use Rattle.aes.specs.declared.Pair.{Pair}
 use Rattle.aes.specs.declared.Key.{Key}
 use Rattle.aes.specs.declared.KeySize.{KeySize}
 use Rattle.aes.specs.declared.KeySize.the-variants.{Aes128, Aes256}
@@ -13,10 +12,6 @@ use Rattle.aes.specs.declared.KeySize.the-variants.{Aes128, Aes256}
 -- FIPS 197 section 3.4: the 16 bytes of a block, column by column
 abbrev pub bytesOf : Block → List ℕ
 bytesOf s = leBytes 4 (s .a) ++ leBytes 4 (s .b) ++ leBytes 4 (s .c) ++ leBytes 4 (s .d)
-
--- the 8 bytes of two columns
-abbrev pub pairBytes : Pair → List ℕ
-pairBytes p = leBytes 4 (p .low) ++ leBytes 4 (p .high)
 
 -- FIPS 197 section 5, figure 4: the words of a key, and the rounds
 abbrev pub nk : KeySize → ℕ

@@ -11,12 +11,6 @@ pub struct Block {
     pub d: u32,
 }
 
-// Two columns of a block.
-pub struct Pair {
-    pub low: u32,
-    pub high: u32,
-}
-
 // The first 16 bytes of a key, and the next 16, which AES-128 does not read.
 pub struct Key {
     pub low: Block,

@@ -1,6 +1,6 @@
 -- Tables of mixed columns: how they are built, and what a sum of their entries is.
 -- Assumes nothing.
-use mathlib.Core.Path.{_≡_, sym, ap, ap₂, _∙_}
+use mathlib.Core.Path.{_≡_, refl, sym, ap, ap₂, _∙_}
 use mathlib.Core.List.{List, [], _∷_}
 use Prim.Native.Nat.{ℕ, _+_, _-_, _*_, _/_, _%_, _^_, _≤_, _<_}
 use native.Mathlib.Omega.{arith}
@@ -12,6 +12,7 @@ use Rattle.bits.proofs.Lists.{list4}
 use Rattle.bits.proofs.Words.{le-xor}
 use Rattle.fips197.specs.Field.{multiply}
 use Rattle.fips197.specs.Cipher.{matrixRow}
+use Rattle.fips197.specs.KeyExpansion.{rotWord}
 use Rattle.bits.proofs.Field.{zero-times, times-xor}
 use Rattle.fips197.proofs.Field.{gf256}
 use Rattle.aes.specs.Columns.{mixed, diagonal}
@@ -42,48 +43,29 @@ sum-part q e {k} {i} x y power few h l ex ey =
     let row : (c : ℕ) → bitXor (multiply j c) (multiply k c) ≡ multiply (bitXor j k) c = λ c. sym (times-xor gf256 j k c (omega arith) (omega arith)) in
     le-xor 4 y x ∙ ap₂ xorBytes ey ex ∙ list4 (row _) (row _) (row _) (row _) ∙ ap (λ (s : ℕ). part q s 0) sum
 
-pub first-rule : (q : List ℕ) (f : ℕ → ℕ) (i s : ℕ) → i < 256 → s ≡ f i → part q s 0 ≡ part q (f (i % 256)) (i / 256)
-first-rule q f i s h e =
-    let m : i ≡ i % 256 = omega arith in
-    let z : 0 ≡ i / 256 = omega arith in
-    ap₂ (part q) (e ∙ ap f m) z
+-- an entry, by its byte
+pub entry-part : (q : List ℕ) (f : ℕ → ℕ) (t : List ℕ) → MixTable q f 256 t → (i b x : ℕ) → x ≡ getD t i 0 → b < 256 → i ≡ b
+    → leBytes 4 x ≡ part q (f b) 0
+entry-part q f t rule i b x e h same = ap (leBytes 4) (e ∙ ap (λ (j : ℕ). getD t j 0) same) ∙ rule b h
 
--- a part, turned by a byte, is the next row's
-turned : List ℕ → List ℕ
-turned l = getD l 3 0 ∷ getD l 0 0 ∷ getD l 1 0 ∷ getD l 2 0 ∷ []
+-- row 0's part, turned right by a byte, is row 3's; by two, row 2's; by three, row 1's
+pub third-part : (q : List ℕ) (s : ℕ) → rotWord (part q s 0) ≡ part q s 3
+unfolding rotWord
+third-part q s = refl
 
-next-part : (q : List ℕ) (s k : ℕ) → turned (part q s k) ≡ part q s (k + 1)
-unfolding turned
-next-part q s k =
-    let row : (i j : ℕ) → i ≡ j → multiply s (getD q i 0) ≡ multiply s (getD q j 0) = λ i j e. ap (λ (n : ℕ). multiply s (getD q n 0)) e in
-    list4 (row _ _ (omega arith)) (row _ _ (omega arith)) (row _ _ (omega arith)) (row _ _ (omega arith))
+pub second-part : (q : List ℕ) (s : ℕ) → rotWord (rotWord (part q s 0)) ≡ part q s 2
+unfolding rotWord
+second-part q s = refl
 
-pub turned-part : (q : List ℕ) (f : ℕ → ℕ) (i : ℕ) {l : List ℕ} → 256 ≤ i → l ≡ part q (f ((i - 256) % 256)) ((i - 256) / 256)
-    → getD l 3 0 ∷ getD l 0 0 ∷ getD l 1 0 ∷ getD l 2 0 ∷ [] ≡ part q (f (i % 256)) (i / 256)
-unfolding turned
-turned-part q f i h e =
-    let low : (i - 256) % 256 ≡ i % 256 = omega arith in
-    let high : (i - 256) / 256 + 1 ≡ i / 256 = omega arith in
-    ap turned e ∙ next-part q (f ((i - 256) % 256)) ((i - 256) / 256) ∙ ap₂ (λ (a b : ℕ). part q (f a) b) low high
+pub next-part : (q : List ℕ) (s : ℕ) → rotWord (rotWord (rotWord (part q s 0))) ≡ part q s 1
+unfolding rotWord
+next-part q s = refl
 
--- an entry, by its table and its byte
-entry-part : (q : List ℕ) (f : ℕ → ℕ) (t : List ℕ) → MixTable q f 1024 t → (k b i : ℕ) → k < 4 → b < 256 → i ≡ 256 * k + b
-    → leBytes 4 (getD t i 0) ≡ part q (f b) k
-entry-part q f t rule k b i h p e =
-    let low : i % 256 ≡ b = omega arith in
-    let high : i / 256 ≡ k = omega arith in
-    rule i (omega arith) ∙ ap₂ (λ (x m : ℕ). part q (f x) m) low high
-
--- four entries, one of each table
-pub four-parts : (q : List ℕ) (f : ℕ → ℕ) (t : List ℕ) → MixTable q f 1024 t → (a b c d i j k l : ℕ) → d < 4294967296
-    → i ≡ a % 256 → j ≡ 256 + b / 256 % 256 → k ≡ 512 + c / 65536 % 256 → l ≡ 768 + d / 16777216
-    → leBytes 4 (bitXor (bitXor (bitXor (getD t i 0) (getD t j 0)) (getD t k 0)) (getD t l 0)) ≡ mixed q (diagonal f a b c d)
+-- a column is the sum of its bytes' parts
+pub four-parts : (q : List ℕ) (f : ℕ → ℕ) (a b c d x y z w : ℕ) → leBytes 4 x ≡ part q (f (a % 256)) 0 → leBytes 4 y ≡ part q (f (b / 256 % 256)) 1
+    → leBytes 4 z ≡ part q (f (c / 256 / 256 % 256)) 2 → leBytes 4 w ≡ part q (f (d / 256 / 256 / 256 % 256)) 3
+    → leBytes 4 (bitXor (bitXor (bitXor x y) z) w) ≡ mixed q (diagonal f a b c d)
 unfolding mixed matrixRow
-four-parts q f t rule a b c d i j k l h ei ej ek el =
-    le-xor 4 (bitXor (bitXor (getD t i 0) (getD t j 0)) (getD t k 0)) (getD t l 0)
-    ∙ ap₂ xorBytes (le-xor 4 (bitXor (getD t i 0) (getD t j 0)) (getD t k 0)
-    ∙ ap₂ xorBytes (le-xor 4 (getD t i 0) (getD t j 0)
-    ∙ ap₂ xorBytes (entry-part q f t rule 0 (a % 256) i (omega arith) (omega arith) (omega arith))
-    (entry-part q f t rule 1 (b / 256 % 256) j (omega arith) (omega arith) (omega arith)))
-    (entry-part q f t rule 2 (c / 256 / 256 % 256) k (omega arith) (omega arith) (omega arith)))
-    (entry-part q f t rule 3 (d / 256 / 256 / 256 % 256) l (omega arith) (omega arith) (omega arith))
+four-parts q f a b c d x y z w ex ey ez ew =
+    le-xor 4 (bitXor (bitXor x y) z) w
+    ∙ ap₂ xorBytes (le-xor 4 (bitXor x y) z ∙ ap₂ xorBytes (le-xor 4 x y ∙ ap₂ xorBytes ex ey) ez) ew

@@ -2,7 +2,7 @@
 -- Assumes nothing.
 use mathlib.Core.Path.{_≡_}
 use mathlib.Core.List.{List}
-use Prim.Native.Nat.{ℕ, _+_, _-_, _/_, _%_, _<_}
+use Prim.Native.Nat.{ℕ, _+_, _-_, _%_, _<_}
 use lib.ListN.{getD}
 use Rattle.bits.specs.Words.{leBytes}
 use Rattle.fips197.specs.Field.{multiply}
@@ -21,9 +21,9 @@ part q s k = word (λ r. multiply s (getD q ((4 + k - r) % 4) 0))
 abbrev pub Products : List ℕ → ℕ → List ℕ → Type 0
 Products q n m = (i : ℕ) → i < n → leBytes 4 (getD m i 0) ≡ part q i 0
 
--- four tables of 256 entries, one after the other: at 256 k + i, the part that f of i makes in row k
+-- the first n entries of a table: at i, the part that f of i makes in row 0
 abbrev pub MixTable : List ℕ → (ℕ → ℕ) → ℕ → List ℕ → Type 0
-MixTable q f n t = (i : ℕ) → i < n → leBytes 4 (getD t i 0) ≡ part q (f (i % 256)) (i / 256)
+MixTable q f n t = (i : ℕ) → i < n → leBytes 4 (getD t i 0) ≡ part q (f i) 0
 
 -- FIPS 197 sections 5.1.3 and 5.3.3: the first row of the matrix
 abbrev pub firstRow : Direction → List ℕ

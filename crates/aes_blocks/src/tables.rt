@@ -1,12 +1,13 @@
-// Four tables of mixed columns, built on the stack from an S-box where enough blocks follow to pay for them.
+// A table of mixed columns, built on the stack from an S-box. The other rows turn its entries: four tables take longer to build.
 ghost use mathlib.Core.Path.{_≡_};
-ghost use mathlib.Core.List.{List, [], _∷_};
+ghost use mathlib.Core.List.{List};
 ghost use Prim.Native.Nat.{ℕ, _*_, _^_, _≤_, _<_};
 ghost use lib.ListN.{length, getD};
 ghost use Rattle.bits.specs.Words.{leBytes};
 ghost use Rattle.fips197.specs.Sbox.{TableOf};
 ghost use Rattle.fips197.specs.Cipher.{mixRow};
 ghost use Rattle.fips197.specs.InvCipher.{invMixRow};
+ghost use Rattle.fips197.specs.KeyExpansion.{rotWord};
 ghost use Rattle.aes.specs.Columns.{mixed, diagonal};
 ghost use Rattle.aes_blocks.specs.Tables.{part, Products, MixTable, firstRow};
 use aes::Direction;
@@ -30,20 +31,20 @@ fn double_products(m: &mut [u32; 256], k: usize, x: u32)
     }
 }
 
-// Column 0 of the inverse matrix, times each byte.
-fn inv_products(m: &mut [u32; 256])
+// Column 0 of the inverse matrix, times each byte. The steps are written out: with numbers known, the compiler makes less of them.
+pub fn inv_products(m: &mut [u32; 256])
     requires { ⌜ length (now m) ≡ 256 ⌝ }
     requires { ⌜ getD (now m) 0 0 ≡ 0 ⌝ }
     ensures { λ _. ⌜ Products invMixRow 256 (now (m .exit)) ⌝ }
 {
-    let mut k: usize = 1;
-    let mut e: usize = 0;
-    while e < 8 {
-        let x = inv_mix_column(k as u32);
-        double_products(m, k, x);
-        k = 2 * k;
-        e += 1;
-    }
+    double_products(m, 1, inv_mix_column(1));
+    double_products(m, 2, inv_mix_column(2));
+    double_products(m, 4, inv_mix_column(4));
+    double_products(m, 8, inv_mix_column(8));
+    double_products(m, 16, inv_mix_column(16));
+    double_products(m, 32, inv_mix_column(32));
+    double_products(m, 64, inv_mix_column(64));
+    double_products(m, 128, inv_mix_column(128));
 }
 
 fn product(m: &[u32; 256], s: u8) -> u32
@@ -52,10 +53,9 @@ fn product(m: &[u32; 256], s: u8) -> u32
     m[s as usize]
 }
 
-// The first table for encryption: a column with a byte in row 0 alone, mixed.
-fn mix_table(t: &[u8; 256], r: &mut [u32; 1024])
-    requires { ⌜ length (now r) ≡ 1024 ⌝ }
-    ensures { λ _. ⌜ length (now (r .exit)) ≡ 1024 ⌝ }
+// For encryption: a column with a byte in row 0 alone, mixed.
+fn mix_table(t: &[u8; 256], r: &mut [u32; 256])
+    requires { ⌜ length (now r) ≡ 256 ⌝ }
     ensures { λ _. ⌜ ((f : ℕ → ℕ) → TableOf f (now (t .entry)) → MixTable mixRow f 256 (now (r .exit))) ⌝ }
 {
     let mut i: usize = 0;
@@ -66,10 +66,9 @@ fn mix_table(t: &[u8; 256], r: &mut [u32; 1024])
     }
 }
 
-// The first table for decryption, where a look-up of the product takes less time.
-fn inv_mix_table(t: &[u8; 256], r: &mut [u32; 1024])
-    requires { ⌜ length (now r) ≡ 1024 ⌝ }
-    ensures { λ _. ⌜ length (now (r .exit)) ≡ 1024 ⌝ }
+// For decryption, where a look-up of the product takes less time.
+fn inv_mix_table(t: &[u8; 256], r: &mut [u32; 256])
+    requires { ⌜ length (now r) ≡ 256 ⌝ }
     ensures { λ _. ⌜ ((f : ℕ → ℕ) → TableOf f (now (t .entry)) → MixTable invMixRow f 256 (now (r .exit))) ⌝ }
 {
     let mut m = [0u32; 256];
@@ -82,9 +81,9 @@ fn inv_mix_table(t: &[u8; 256], r: &mut [u32; 1024])
     }
 }
 
-fn first_table(direction: Direction, t: &[u8; 256], r: &mut [u32; 1024])
-    requires { ⌜ length (now r) ≡ 1024 ⌝ }
-    ensures { λ _. ⌜ length (now (r .exit)) ≡ 1024 ⌝ }
+// The table in place: a returned array is copied.
+pub fn fill_table(direction: Direction, t: &[u8; 256], r: &mut [u32; 256])
+    requires { ⌜ length (now r) ≡ 256 ⌝ }
     ensures { λ _. ⌜ ((f : ℕ → ℕ) → TableOf f (now (t .entry)) → MixTable (firstRow direction) f 256 (now (r .exit))) ⌝ }
 {
     match direction {
@@ -95,46 +94,24 @@ fn first_table(direction: Direction, t: &[u8; 256], r: &mut [u32; 1024])
 
 // The word turned left by a byte.
 fn turn(x: u32) -> u32
-    ensures { λ r. ⌜ leBytes 4 r ≡ getD (leBytes 4 x) 3 0 ∷ getD (leBytes 4 x) 0 0 ∷ getD (leBytes 4 x) 1 0 ∷ getD (leBytes 4 x) 2 0 ∷ [] ⌝ }
+    ensures { λ r. ⌜ leBytes 4 r ≡ rotWord (rotWord (rotWord (leBytes 4 x))) ⌝ }
 {
     rot_word(rot_word(rot_word(x)))
 }
 
-// Each table is the one before, turned by a byte.
-fn turn_tables(t: &mut [u32; 1024])
-    requires { ⌜ length (now t) ≡ 1024 ⌝ }
-    ensures { λ _. ⌜ ((q : List ℕ) (f : ℕ → ℕ) → MixTable q f 256 (now (t .entry)) → MixTable q f 1024 (now (t .exit))) ⌝ }
-{
-    let mut i: usize = 256;
-    while i < 1024 {
-        let x = turn(t[i - 256]);
-        t[i] = x;
-        i += 1;
-    }
-}
-
-// The tables in place: a returned array is copied.
-pub fn fill_tables(direction: Direction, t: &[u8; 256], r: &mut [u32; 1024])
-    requires { ⌜ length (now r) ≡ 1024 ⌝ }
-    ensures { λ _. ⌜ ((f : ℕ → ℕ) → TableOf f (now (t .entry)) → MixTable (firstRow direction) f 1024 (now (r .exit))) ⌝ }
-{
-    first_table(direction, t, r);
-    turn_tables(r);
-}
-
-fn entry(t: &[u32; 1024], i: u32) -> u32
-    requires { ⌜ i < 1024 ⌝ }
+fn entry(t: &[u32; 256], i: u32) -> u32
+    requires { ⌜ i < 256 ⌝ }
     ensures { λ r. ⌜ r ≡ getD (now (t .entry)) i 0 ⌝ }
 {
     t[i as usize]
 }
 
-// A column of a round without its key: whatever matrix and whatever function the tables have.
-pub fn table_column(t: &[u32; 1024], a: u32, b: u32, c: u32, d: u32) -> u32
-    ensures { λ r. ⌜ ((q : List ℕ) (f : ℕ → ℕ) → MixTable q f 1024 (now (t .entry)) → leBytes 4 r ≡ mixed q (diagonal f a b c d)) ⌝ }
+// A column of a round without its key: whatever matrix and whatever function the table has.
+pub fn table_column(t: &[u32; 256], a: u32, b: u32, c: u32, d: u32) -> u32
+    ensures { λ r. ⌜ ((q : List ℕ) (f : ℕ → ℕ) → MixTable q f 256 (now (t .entry)) → leBytes 4 r ≡ mixed q (diagonal f a b c d)) ⌝ }
 {
     entry(t, a % 256)
-        ^ entry(t, 256 + (b >> 8) % 256)
-        ^ entry(t, 512 + (c >> 16) % 256)
-        ^ entry(t, 768 + (d >> 24))
+        ^ turn(entry(t, (b >> 8) % 256))
+        ^ rot_word(rot_word(entry(t, (c >> 16) % 256)))
+        ^ rot_word(entry(t, d >> 24))
 }

@@ -46,7 +46,7 @@ pub extern "C" fn aes_decrypt_block(size: u8, w: &[u32; 60], block: &mut [u8; 16
     ensures { λ _. ⌜ now (block .exit) ≡ invCipher (schedule (sizeOf size) (now (w .entry))) (nr (sizeOf size)) (now (block .entry)) ⌝ }
 {
     let b = *block;
-    let r = to_bytes(aes::inv_cipher::decrypt_block(key_size(size), w, from_bytes(b)));
+    let r = to_bytes(aes_blocks::decrypt_block(key_size(size), w, from_bytes(b)));
     *block = r;
 }
 

@@ -1,11 +1,14 @@
 // The eight uses of a handle (Intel 343965-001US 3.2 to 3.9), over one IWKey, the handle and the CPU record.
 ghost use mathlib.Core.Path.{_≡_};
-ghost use mathlib.Core.List.{[], _∷_};
-ghost use Prim.Native.Nat.{_/_};
+ghost use mathlib.Core.List.{List, [], _∷_};
+ghost use mathlib.Core.Option.{some};
+ghost use Prim.Native.Nat.{ℕ, _/_};
 ghost use lib.ListN.{length};
 ghost use Rattle.bits.specs.Blocks.{mapBlocks};
+ghost use Rattle.fips197.specs.Cipher.{mixRow};
 ghost use Rattle.fips197.specs.Sbox.{sbox, TableOf};
 ghost use Rattle.aes.specs.Form.{bytesOf, keyBytes};
+ghost use Rattle.aes_blocks.specs.Tables.{MixTable};
 ghost use Rattle.keywrap.specs.Form.{opened, paddedKey, handleBytes};
 ghost use Rattle.model.specs.Cpu.{cpl, withXmm, withZf, mapXmm};
 ghost use Rattle.model.specs.Instructions as model;
@@ -13,12 +16,13 @@ use aes::Block;
 use aes::Direction;
 use aes::Key;
 use aes::KeySize;
-use aes::cipher::encrypt_with;
-use aes::inv_cipher::decrypt_block;
 use aes::word::from_bytes;
 use aes::word::key_from_bytes;
+use aes_blocks::decrypt_block;
 use aes_blocks::decrypt_blocks;
-use aes_blocks::encrypt_blocks_by;
+use aes_blocks::encrypt_block_with;
+use aes_blocks::encrypt_blocks_with;
+use aes_blocks::tables::fill_table;
 use aes_key::expand_with;
 use cpu::put_xmm;
 use cpu::put_zf;
@@ -60,25 +64,30 @@ fn illegal(cpl: u8, size: KeySize, direction: Direction, aad: Block) -> bool
         | forbids(direction, w % 8)
 }
 
-// An illegal handle is not unwrapped. The S-box is lent.
+// An illegal handle is not unwrapped, and no table is made for it; where a key comes back, the lent table is that of the cipher.
 pub fn opened_for(
-    t: &[u8; 256],
+    t: &mut [u32; 256],
+    u: &[u8; 256],
     k: IwKey,
     cpl: u8,
     size: KeySize,
     direction: Direction,
     h: Handle,
 ) -> Unwrapped
-    requires { ⌜ TableOf sbox (now t) ⌝ }
+    requires { ⌜ length (now t) ≡ 256 ⌝ }
+    requires { ⌜ TableOf sbox (now u) ⌝ }
     ensures { λ r. ⌜ opened r ≡ paddedKey (model.openedFor k cpl size direction (handleBytes size h)) ⌝ }
+    ensures { λ r. ⌜ ((key : List ℕ) → opened r ≡ some key → MixTable mixRow sbox 256 (now (t .exit))) ⌝ }
 {
     if illegal(cpl, size, direction, h.aad) {
         return Unwrapped::Refused;
     }
+    fill_table(Direction::Encrypt, u, t);
     let integrity = k.integrity;
     let encryption = k.encryption;
     unwrap_with(
         t,
+        u,
         size,
         from_bytes(integrity),
         key_from_bytes(encryption),
@@ -88,24 +97,40 @@ pub fn opened_for(
 
 // ---- blocks
 
-fn cipher_block(t: &[u8; 256], direction: Direction, size: KeySize, key: Key, b: Block) -> Block
-    requires { ⌜ TableOf sbox (now t) ⌝ }
+fn cipher_block(
+    t: &[u32; 256],
+    u: &[u8; 256],
+    direction: Direction,
+    size: KeySize,
+    key: Key,
+    b: Block,
+) -> Block
+    requires { ⌜ MixTable mixRow sbox 256 (now t) ⌝ }
+    requires { ⌜ TableOf sbox (now u) ⌝ }
     ensures { λ r. ⌜ bytesOf r ≡ model.aes direction size (keyBytes size key) (bytesOf b) ⌝ }
 {
-    let w = expand_with(t, size, key);
+    let w = expand_with(u, size, key);
     match direction {
-        Direction::Encrypt => encrypt_with(t, size, &w, b),
+        Direction::Encrypt => encrypt_block_with(t, u, size, &w, b),
         Direction::Decrypt => decrypt_block(size, &w, b),
     }
 }
 
-fn cipher_blocks(t: &[u8; 256], direction: Direction, size: KeySize, key: Key, bytes: &mut [u8])
-    requires { ⌜ TableOf sbox (now t) ⌝ }
+fn cipher_blocks(
+    t: &[u32; 256],
+    u: &[u8; 256],
+    direction: Direction,
+    size: KeySize,
+    key: Key,
+    bytes: &mut [u8],
+)
+    requires { ⌜ MixTable mixRow sbox 256 (now t) ⌝ }
+    requires { ⌜ TableOf sbox (now u) ⌝ }
     ensures { λ _. ⌜ now (bytes .exit) ≡ mapBlocks (model.aes direction size (keyBytes size key)) (length (now (bytes .entry)) / 16) (now (bytes .entry)) ⌝ }
 {
-    let w = expand_with(t, size, key);
+    let w = expand_with(u, size, key);
     match direction {
-        Direction::Encrypt => encrypt_blocks_by(t, size, &w, bytes),
+        Direction::Encrypt => encrypt_blocks_with(t, u, size, &w, bytes),
         Direction::Decrypt => decrypt_blocks(size, &w, bytes),
     }
 }
@@ -131,17 +156,19 @@ fn done_single(cpu: [u8; 408], n: u8, b: Block) -> [u8; 408]
 
 // XMM0 to XMM7 are the first 128 bytes of the record.
 fn done_wide(
-    t: &[u8; 256],
+    t: &[u32; 256],
+    u: &[u8; 256],
     direction: Direction,
     size: KeySize,
     key: Key,
     cpu: [u8; 408],
 ) -> [u8; 408]
-    requires { ⌜ TableOf sbox (now t) ⌝ }
+    requires { ⌜ MixTable mixRow sbox 256 (now t) ⌝ }
+    requires { ⌜ TableOf sbox (now u) ⌝ }
     ensures { λ r. ⌜ r ≡ withZf 0 (mapXmm (model.aes direction size (keyBytes size key)) (0 ∷ 1 ∷ 2 ∷ 3 ∷ 4 ∷ 5 ∷ 6 ∷ 7 ∷ []) cpu) ⌝ }
 {
     let mut c = cpu;
-    cipher_blocks(t, direction, size, key, &mut c[0..128]);
+    cipher_blocks(t, u, direction, size, key, &mut c[0..128]);
     put_zf(&mut c, 0);
     c
 }
@@ -157,12 +184,13 @@ pub fn use_single(
 ) -> [u8; 408]
     ensures { λ r. ⌜ r ≡ model.ciphered direction size (block ∷ []) (model.openedFor k (cpl cpu) size direction (handleBytes size h)) cpu ⌝ }
 {
-    let t = sbox_table();
+    let u = sbox_table();
+    let mut t = [0u32; 256];
     let level = cpu::cpl(&cpu);
-    let Unwrapped::Key(key) = opened_for(&t, k, level, size, direction, h) else {
+    let Unwrapped::Key(key) = opened_for(&mut t, &u, k, level, size, direction, h) else {
         return failed(cpu);
     };
-    let b = cipher_block(&t, direction, size, key, xmm(&cpu, block));
+    let b = cipher_block(&t, &u, direction, size, key, xmm(&cpu, block));
     done_single(cpu, block, b)
 }
 
@@ -176,10 +204,11 @@ pub fn use_wide(
 ) -> [u8; 408]
     ensures { λ r. ⌜ r ≡ model.ciphered direction size (0 ∷ 1 ∷ 2 ∷ 3 ∷ 4 ∷ 5 ∷ 6 ∷ 7 ∷ []) (model.openedFor k (cpl cpu) size direction (handleBytes size h)) cpu ⌝ }
 {
-    let t = sbox_table();
+    let u = sbox_table();
+    let mut t = [0u32; 256];
     let level = cpu::cpl(&cpu);
-    let Unwrapped::Key(key) = opened_for(&t, k, level, size, direction, h) else {
+    let Unwrapped::Key(key) = opened_for(&mut t, &u, k, level, size, direction, h) else {
         return failed(cpu);
     };
-    done_wide(&t, direction, size, key, cpu)
+    done_wide(&t, &u, direction, size, key, cpu)
 }

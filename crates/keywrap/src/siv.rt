@@ -1,13 +1,14 @@
-// Wrapping and unwrapping: tag and keystream by a lent S-box and the schedule of the encryption key.
+// Wrapping and unwrapping: tag and keystream by lent tables and the schedule of the encryption key.
 ghost use mathlib.Core.Path.{_≡_};
 ghost use mathlib.Core.List.{flatMap};
 ghost use Prim.Native.Nat.{ℕ, _/_};
 ghost use lib.ListN.{length};
 ghost use Rattle.bits.specs.Bytes.{xorBytes, alike};
-ghost use Rattle.fips197.specs.Cipher.{cipher};
+ghost use Rattle.fips197.specs.Cipher.{mixRow, cipher};
 ghost use Rattle.fips197.specs.Sbox.{sbox, TableOf};
 ghost use Rattle.aes.specs.Form.{bytesOf, nr, keyBytes, schedule};
 ghost use Rattle.aes.specs.declared.KeySize.the-variants.{Aes256};
+ghost use Rattle.aes_blocks.specs.Tables.{MixTable};
 ghost use Rattle.handle.specs.Wrap as handle;
 ghost use Rattle.handle.specs.Wrap.{wrapKey, unwrapKey};
 ghost use Rattle.keywrap.specs.Form.{handleBytes, wholeKey, wholeHandle, padded, opened, paddedKey};
@@ -15,9 +16,11 @@ use crate::Handle;
 use crate::Unwrapped;
 use crate::hash::hashed;
 use aes::Block;
+use aes::Direction;
 use aes::Key;
 use aes::KeySize;
-use aes::cipher::encrypt_with;
+use aes_blocks::encrypt_block_with;
+use aes_blocks::tables::fill_table;
 use aes_key::expand_with;
 use sbox::sbox_table;
 
@@ -62,37 +65,48 @@ fn same(a: Block, b: Block) -> bool
 }
 
 fn tag_with(
-    t: &[u8; 256],
+    t: &[u32; 256],
+    u: &[u8; 256],
     w: &[u32; 60],
     integrity: Block,
     aad: Block,
     size: KeySize,
     key: Key,
 ) -> Block
-    requires { ⌜ TableOf sbox (now t) ⌝ }
+    requires { ⌜ MixTable mixRow sbox 256 (now t) ⌝ }
+    requires { ⌜ TableOf sbox (now u) ⌝ }
     ensures { λ r. ⌜ bytesOf r ≡ cipher (schedule Aes256 (now (w .entry))) (nr Aes256) (handle.clearTop (handle.hashed (bytesOf integrity) (bytesOf aad) (keyBytes size key))) ⌝ }
 {
     let h = clear_top(hashed(integrity, aad, size, key));
-    encrypt_with(t, KeySize::Aes256, w, h)
+    encrypt_block_with(t, u, KeySize::Aes256, w, h)
 }
 
 // A block XORed with block i of the keystream.
-fn mask_block(t: &[u8; 256], w: &[u32; 60], tag: Block, i: u32, b: Block) -> Block
-    requires { ⌜ TableOf sbox (now t) ⌝ }
+fn mask_block(t: &[u32; 256], u: &[u8; 256], w: &[u32; 60], tag: Block, i: u32, b: Block) -> Block
+    requires { ⌜ MixTable mixRow sbox 256 (now t) ⌝ }
+    requires { ⌜ TableOf sbox (now u) ⌝ }
     ensures { λ r. ⌜ bytesOf r ≡ xorBytes (bytesOf b) (cipher (schedule Aes256 (now (w .entry))) (nr Aes256) (handle.counterBlock (bytesOf tag) i)) ⌝ }
 {
     xor_block(
         b,
-        encrypt_with(t, KeySize::Aes256, w, counter_block(tag, i)),
+        encrypt_block_with(t, u, KeySize::Aes256, w, counter_block(tag, i)),
     )
 }
 
 // A key, or its ciphertext, XORed with the keystream.
-fn mask_with(t: &[u8; 256], w: &[u32; 60], tag: Block, size: KeySize, key: Key) -> Key
-    requires { ⌜ TableOf sbox (now t) ⌝ }
+fn mask_with(
+    t: &[u32; 256],
+    u: &[u8; 256],
+    w: &[u32; 60],
+    tag: Block,
+    size: KeySize,
+    key: Key,
+) -> Key
+    requires { ⌜ MixTable mixRow sbox 256 (now t) ⌝ }
+    requires { ⌜ TableOf sbox (now u) ⌝ }
     ensures { λ r. ⌜ wholeKey r ≡ padded 32 (xorBytes (keyBytes size key) (flatMap (cipher (schedule Aes256 (now (w .entry))) (nr Aes256)) (handle.counterBlocks (bytesOf tag) 0 (length (keyBytes size key) / 16)))) ⌝ }
 {
-    let low = mask_block(t, w, tag, 0, key.low);
+    let low = mask_block(t, u, w, tag, 0, key.low);
     match size {
         KeySize::Aes128 => Key {
             low,
@@ -105,7 +119,7 @@ fn mask_with(t: &[u8; 256], w: &[u32; 60], tag: Block, size: KeySize, key: Key) 
         },
         KeySize::Aes256 => Key {
             low,
-            high: mask_block(t, w, tag, 1, key.high),
+            high: mask_block(t, u, w, tag, 1, key.high),
         },
     }
 }
@@ -114,10 +128,12 @@ fn mask_with(t: &[u8; 256], w: &[u32; 60], tag: Block, size: KeySize, key: Key) 
 pub fn wrap(size: KeySize, integrity: Block, encryption: Key, aad: Block, key: Key) -> Handle
     ensures { λ r. ⌜ wholeHandle r ≡ padded 64 (wrapKey (bytesOf integrity) (keyBytes Aes256 encryption) (bytesOf aad) (keyBytes size key)) ⌝ }
 {
-    let t = sbox_table();
-    let w = expand_with(&t, KeySize::Aes256, encryption);
-    let tag = tag_with(&t, &w, integrity, aad, size, key);
-    let ciphertext = mask_with(&t, &w, tag, size, key);
+    let u = sbox_table();
+    let mut t = [0u32; 256];
+    fill_table(Direction::Encrypt, &u, &mut t);
+    let w = expand_with(&u, KeySize::Aes256, encryption);
+    let tag = tag_with(&t, &u, &w, integrity, aad, size, key);
+    let ciphertext = mask_with(&t, &u, &w, tag, size, key);
     Handle {
         aad,
         tag,
@@ -125,20 +141,22 @@ pub fn wrap(size: KeySize, integrity: Block, encryption: Key, aad: Block, key: K
     }
 }
 
-// UnwrapKeyAndAuthenticate384 and UnwrapKeyAndAuthenticate512, by a lent S-box.
+// UnwrapKeyAndAuthenticate384 and UnwrapKeyAndAuthenticate512, by lent tables.
 pub fn unwrap_with(
-    t: &[u8; 256],
+    t: &[u32; 256],
+    u: &[u8; 256],
     size: KeySize,
     integrity: Block,
     encryption: Key,
     handle: Handle,
 ) -> Unwrapped
-    requires { ⌜ TableOf sbox (now t) ⌝ }
+    requires { ⌜ MixTable mixRow sbox 256 (now t) ⌝ }
+    requires { ⌜ TableOf sbox (now u) ⌝ }
     ensures { λ r. ⌜ opened r ≡ paddedKey (unwrapKey (bytesOf integrity) (keyBytes Aes256 encryption) (handleBytes size handle)) ⌝ }
 {
-    let w = expand_with(t, KeySize::Aes256, encryption);
-    let key = mask_with(t, &w, handle.tag, size, handle.ciphertext);
-    let tag = tag_with(t, &w, integrity, handle.aad, size, key);
+    let w = expand_with(u, KeySize::Aes256, encryption);
+    let key = mask_with(t, u, &w, handle.tag, size, handle.ciphertext);
+    let tag = tag_with(t, u, &w, integrity, handle.aad, size, key);
     if same(tag, handle.tag) {
         return Unwrapped::Key(key);
     }
@@ -148,6 +166,8 @@ pub fn unwrap_with(
 pub fn unwrap(size: KeySize, integrity: Block, encryption: Key, handle: Handle) -> Unwrapped
     ensures { λ r. ⌜ opened r ≡ paddedKey (unwrapKey (bytesOf integrity) (keyBytes Aes256 encryption) (handleBytes size handle)) ⌝ }
 {
-    let t = sbox_table();
-    unwrap_with(&t, size, integrity, encryption, handle)
+    let u = sbox_table();
+    let mut t = [0u32; 256];
+    fill_table(Direction::Encrypt, &u, &mut t);
+    unwrap_with(&t, &u, size, integrity, encryption, handle)
 }

@@ -48,7 +48,7 @@ fn cipher_one(name: &[u8], size: KeySize, w: &[u32; 60], plaintext: Block) {
     start(b"encrypt ", name);
     print_block(c);
     start(b"\ndecrypt ", name);
-    print_block(aes::inv_cipher::decrypt_block(size, w, c));
+    print_block(aes_blocks::decrypt_block(size, w, c));
     print(b"\n");
 }
 

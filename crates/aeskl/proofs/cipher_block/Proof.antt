@@ -17,8 +17,8 @@ expand-with-requires c κs = search needs
 enum-told : tie.Need-enum-told
 enum-told c = search needs
 
-encrypt-with-requires : tie.Need-encrypt-with-requires
-encrypt-with-requires c κs = search needs
+encrypt-block-with-requires : tie.Need-encrypt-block-with-requires
+encrypt-block-with-requires c κs = search needs
 
 enum-told-2 : tie.Need-enum-told-2
 enum-told-2 c = search needs
@@ -30,7 +30,7 @@ returns : tie.Need-returns
 unfolding encrypt
 returns c =
     let a = c .before .before .before .before .before .args in
-    c .encrypt-with .ensures
+    c .encrypt-block-with .ensures
     ∙ ap (λ (w : List ℕ). cipher w (nr (a .size)) (bytesOf (a .b))) (c .before .before .before .before .expand-with .ensures)
     ∙ ap (λ (d : Direction). aes d (a .size) (keyBytes (a .size) (a .key)) (bytesOf (a .b))) (sym (c .before .before .enum-told .given .1))
 
@@ -48,7 +48,7 @@ cipher-block-spec =
     (tie.spec
     expand-with-requires
     enum-told
-    encrypt-with-requires
+    encrypt-block-with-requires
     enum-told-2
     decrypt-block-requires
     returns

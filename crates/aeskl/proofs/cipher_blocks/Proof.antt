@@ -19,8 +19,8 @@ expand-with-requires c κs = search needs
 enum-told : tie.Need-enum-told
 enum-told c = search needs
 
-encrypt-blocks-by-requires : tie.Need-encrypt-blocks-by-requires
-encrypt-blocks-by-requires c κs = search needs
+encrypt-blocks-with-requires : tie.Need-encrypt-blocks-with-requires
+encrypt-blocks-with-requires c κs = search needs
 
 enum-told-2 : tie.Need-enum-told-2
 enum-told-2 c = search needs
@@ -36,7 +36,7 @@ unfolding encrypt
 returns c =
     let a = c .before .before .before .before .before .before .before .before .before .args in
     let s = a .bytes .now in
-    c .before .before .encrypt-blocks-by .ensures
+    c .before .before .encrypt-blocks-with .ensures
     ∙ ap (λ (w : List ℕ). mapBlocks (cipher w (nr (a .size))) (length s / 16) s) (c .before .before .before .before .before .before .before .expand-with .ensures)
     ∙ ap (λ (d : Direction). mapBlocks (aes d (a .size) (keyBytes (a .size) (a .key))) (length s / 16) s) (sym (c .before .before .before .before .before .enum-told .given .1))
 
@@ -58,7 +58,7 @@ cipher-blocks-spec =
     (tie.spec
     expand-with-requires
     enum-told
-    encrypt-blocks-by-requires
+    encrypt-blocks-with-requires
     enum-told-2
     decrypt-blocks-requires
     same-length

@@ -26,14 +26,14 @@ slice-aggregate-put-zf c =
     let a = c .before .before .before .before .args in
     let f = aes (a .direction) (a .size) (keyBytes (a .size) (a .key)) in
     sym (wide-length f (aes-length (a .direction) (a .size) (keyBytes (a .size) (a .key))) (a .cpu) (search needs)
-    (c .before .before .cipher-blocks .last .1 .1 .1 .1 .0) (c .before .before .cipher-blocks .ensures))
+    (c .before .before .cipher-blocks .last .1 .1 .1 .1 .1 .0) (c .before .before .cipher-blocks .ensures))
 
 put-zf-requires : tie.Need-put-zf-requires
 put-zf-requires c κs =
     let a = c .before .before .before .before .args in
     let f = aes (a .direction) (a .size) (keyBytes (a .size) (a .key)) in (
       wide-length f (aes-length (a .direction) (a .size) (keyBytes (a .size) (a .key))) (a .cpu) (search needs)
-          (c .before .before .cipher-blocks .last .1 .1 .1 .1 .0) (c .before .before .cipher-blocks .ensures),
+          (c .before .before .cipher-blocks .last .1 .1 .1 .1 .1 .0) (c .before .before .cipher-blocks .ensures),
       lit< tt,
     )
 
@@ -43,7 +43,7 @@ returns c =
     let f = aes (a .direction) (a .size) (keyBytes (a .size) (a .key)) in
     c .before .put-zf .ensures
     ∙ ap (withZf 0)
-    (wide-done f (aes-length (a .direction) (a .size) (keyBytes (a .size) (a .key))) (a .cpu) (search needs) (c .before .before .before .before .cipher-blocks .last .1 .1 .1 .1 .0)
+    (wide-done f (aes-length (a .direction) (a .size) (keyBytes (a .size) (a .key))) (a .cpu) (search needs) (c .before .before .before .before .cipher-blocks .last .1 .1 .1 .1 .1 .0)
     (c .before .before .before .before .cipher-blocks .ensures))
 
 pub done-wide-spec : {M : Type 1} → statement M

@@ -4,7 +4,7 @@ use mathlib.Core.Option.{Option}
 use Prim.Native.Nat.{ℕ}
 use lib.ListN.{length}
 use Rattle.aes.specs.Form.{keyBytes}
-use Rattle.keywrap.specs.Form.{opened, paddedKey, handleBytes}
+use Rattle.keywrap.specs.Form.{opened, paddedKey, handleBytes, wholeKey}
 use Rattle.model.specs.Cpu.{cpl, withXmm, withZf}
 use Rattle.model.specs.Instructions.{aes, ciphered, openedFor}
 use Rattle.aeskl.proofs.Openings.{opened-key, opened-none}
@@ -35,10 +35,10 @@ failed-requires c κs = search needs
 
 returns : tie.Need-returns
 returns c =
-    let a = c .before .before .before .before .before .before .before .before .args in
+    let a = c .before .before .before .before .before .before .before .before .before .args in
     let cpu = a .t6 in
-    let level = ap (λ (n : ℕ). paddedKey (openedFor (a .k) n (a .size) (a .direction) (handleBytes (a .size) (a .h)))) (c .before .before .before .before .before .cpl .ensures) in
-    let none-given = sym (ap opened (c .before .enum-told .given .1)) ∙ c .before .before .before .opened-for .ensures ∙ level in
+    let level = ap (λ (n : ℕ). paddedKey (openedFor (a .k) n (a .size) (a .direction) (handleBytes (a .size) (a .h)))) (c .before .before .before .before .before .before .cpl .ensures) in
+    let none-given = sym (ap opened (c .before .enum-told .given .1)) ∙ c .before .before .before .opened-for .ensures .0 ∙ level in
     c .failed .ensures
     ∙ ap (λ (x : Option (List ℕ)). ciphered (a .direction) (a .size) (a .block ∷ []) x cpu)
     (sym (opened-none (a .k) (cpl cpu) (a .size) (a .direction) (a .h) none-given))
@@ -47,24 +47,26 @@ sized : (c : tie.Start) → length (c .args .t6) ≡ 408
 sized c = search needs
 
 slice-aggregate-xmm : tie.Need-slice-aggregate-xmm
-slice-aggregate-xmm c = sym (sized (c .before .before .before .before .before .before .before .before .before .before))
+slice-aggregate-xmm c = sym (sized (c .before .before .before .before .before .before .before .before .before .before .before .before))
 
 xmm-requires : tie.Need-xmm-requires
-xmm-requires c κs = sized (c .before .before .before .before .before .before .before .before .before .before)
+xmm-requires c κs = sized (c .before .before .before .before .before .before .before .before .before .before .before .before)
 
 cipher-block-requires : tie.Need-cipher-block-requires
-cipher-block-requires c κs = search needs
+cipher-block-requires c κs =
+    let key = c .before .before .before .before .before .key .given in
+    (c .before .before .before .before .before .before .before .opened-for .ensures .1 (wholeKey (key .0 .0)) (ap opened (key .1)), c .before .before .before .before .before .before .before .before .before .before .before .before .sbox-table .ensures)
 
 done-single-requires : tie.Need-done-single-requires
 done-single-requires c κs = search needs
 
 returns-2 : tie.Need-returns-2
 returns-2 c =
-    let a = c .before .before .before .before .before .before .before .before .before .before .before .before .before .args in
+    let a = c .before .before .before .before .before .before .before .before .before .before .before .before .before .before .before .args in
     let cpu = a .t6 in
-    let key = c .before .before .before .before .before .before .key .given .0 .0 in
-    let level = ap (λ (n : ℕ). paddedKey (openedFor (a .k) n (a .size) (a .direction) (handleBytes (a .size) (a .h)))) (c .before .before .before .before .before .before .before .before .before .before .cpl .ensures) in
-    let key-given = sym (ap opened (c .before .before .before .before .before .before .key .given .1)) ∙ c .before .before .before .before .before .before .before .before .opened-for .ensures ∙ level in
+    let key = c .before .before .before .before .before .before .before .key .given .0 .0 in
+    let level = ap (λ (n : ℕ). paddedKey (openedFor (a .k) n (a .size) (a .direction) (handleBytes (a .size) (a .h)))) (c .before .before .before .before .before .before .before .before .before .before .before .before .cpl .ensures) in
+    let key-given = sym (ap opened (c .before .before .before .before .before .before .before .key .given .1)) ∙ c .before .before .before .before .before .before .before .before .before .opened-for .ensures .0 ∙ level in
     c .done-single .ensures
     ∙ ap (λ (b : List ℕ). withZf 0 (withXmm (a .block) b cpu))
     (c .before .cipher-block .ensures ∙ ap (aes (a .direction) (a .size) (keyBytes (a .size) key)) (c .before .before .xmm .ensures))

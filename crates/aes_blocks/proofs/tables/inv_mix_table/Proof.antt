@@ -1,6 +1,6 @@
 -- The entries below i are right; the measure is the entries left.
 -- Assumes nothing.
-use mathlib.Core.Path.{_≡_, refl, _∙_}
+use mathlib.Core.Path.{_≡_, refl, ap, _∙_}
 use Prim.Native.Nat.{ℕ, _-_, _≤_, _<_}
 use native.Mathlib.Omega.{arith}
 use borrow.Author.Count.{below-none}
@@ -10,13 +10,12 @@ use Rattle.bits.specs.Words.{leBytes}
 use Rattle.bits.proofs.Lists.{filled}
 use Rattle.fips197.specs.InvCipher.{invMixRow}
 use Rattle.aes_blocks.specs.Tables.{part}
-use Rattle.aes_blocks.proofs.Columns.{first-rule}
 use Rattle.aes_blocks.proofs.tables.inv_mix_table.Statement.{statement}
 use Rattle.aes_blocks.proofs.tables.inv_mix_table.Tie as tie
 
 abbrev Inv-loop : tie.InvT-loop
 Inv-loop t r₀ m i₀ r i =
-    (i ≤ 256) × (length r ≡ 1024) × ((k : ℕ) → k < i → leBytes 4 (getD r k 0) ≡ part invMixRow (getD t k 0) 0)
+    (i ≤ 256) × (length r ≡ 256) × ((k : ℕ) → k < i → leBytes 4 (getD r k 0) ≡ part invMixRow (getD t k 0) 0)
 
 abbrev μ-loop : tie.MeasureT-loop
 μ-loop t r₀ m i₀ r i = 256 - i
@@ -60,8 +59,7 @@ loop-again c =
 
 returns : tie.Need-returns Inv-loop μ-loop
 returns c =
-    let loop = c .before .loop in
-    (loop .inv .1, λ f rule k h. loop .inv .2 k (omega arith) ∙ first-rule invMixRow f k _ h (rule k h))
+    λ f rule k h. c .before .loop .inv .2 k (omega arith) ∙ ap (λ (s : ℕ). part invMixRow s 0) (rule k h)
 
 pub inv-mix-table-spec : {M : Type 1} → statement M
 inv-mix-table-spec =

@@ -11,13 +11,13 @@ use Rattle.bits.proofs.Lists.{filled}
 use Rattle.fips197.specs.Cipher.{mixRow}
 use Rattle.aes.specs.Columns.{mixed}
 use Rattle.aes_blocks.specs.Tables.{part}
-use Rattle.aes_blocks.proofs.Columns.{first-part, first-rule}
+use Rattle.aes_blocks.proofs.Columns.{first-part}
 use Rattle.aes_blocks.proofs.tables.mix_table.Statement.{statement}
 use Rattle.aes_blocks.proofs.tables.mix_table.Tie as tie
 
 abbrev Inv-loop : tie.InvT-loop
 Inv-loop t r₀ i₀ r i =
-    (i ≤ 256) × (length r ≡ 1024) × ((k : ℕ) → k < i → leBytes 4 (getD r k 0) ≡ part mixRow (getD t k 0) 0)
+    (i ≤ 256) × (length r ≡ 256) × ((k : ℕ) → k < i → leBytes 4 (getD r k 0) ≡ part mixRow (getD t k 0) 0)
 
 abbrev μ-loop : tie.MeasureT-loop
 μ-loop t r₀ i₀ r i = 256 - i
@@ -62,8 +62,7 @@ loop-again c =
 
 returns : tie.Need-returns Inv-loop μ-loop
 returns c =
-    let loop = c .before .loop in
-    (loop .inv .1, λ f rule k h. loop .inv .2 k (omega arith) ∙ first-rule mixRow f k _ h (rule k h))
+    λ f rule k h. c .before .loop .inv .2 k (omega arith) ∙ ap (λ (s : ℕ). part mixRow s 0) (rule k h)
 
 pub mix-table-spec : {M : Type 1} → statement M
 mix-table-spec =

@@ -14,7 +14,6 @@ rot-word-requires-3 : tie.Need-rot-word-requires-3
 rot-word-requires-3 c κs = search needs
 
 returns : tie.Need-returns
-unfolding rotWord
 returns c = c .rot-word3 .ensures ∙ ap rotWord (c .before .rot-word2 .ensures ∙ ap rotWord (c .before .before .rot-word .ensures))
 
 pub turn-spec : {M : Type 1} → statement M

@@ -11,8 +11,8 @@ use Rattle.keywrap.proofs.siv.mask_block.Tie as tie
 counter-block-requires : tie.Need-counter-block-requires
 counter-block-requires c κs = search needs
 
-encrypt-with-requires : tie.Need-encrypt-with-requires
-encrypt-with-requires c κs = search needs
+encrypt-block-with-requires : tie.Need-encrypt-block-with-requires
+encrypt-block-with-requires c κs = search needs
 
 xor-block-requires : tie.Need-xor-block-requires
 xor-block-requires c κs = search needs
@@ -21,8 +21,8 @@ returns : tie.Need-returns
 returns c =
     let st = c .before .before .before in
     c .xor-block .ensures
-    ∙ ap (xorBytes (bytesOf (st .args .b))) (c .before .encrypt-with .ensures ∙ ap (cipher (schedule Aes256 (st .args .w .now)) 14) (c .before .before .counter-block .ensures))
+    ∙ ap (xorBytes (bytesOf (st .args .b))) (c .before .encrypt-block-with .ensures ∙ ap (cipher (schedule Aes256 (st .args .w .now)) 14) (c .before .before .counter-block .ensures))
 
 pub mask-block-spec : {M : Type 1} → statement M
 mask-block-spec =
-    tie.close (tie.spec counter-block-requires encrypt-with-requires xor-block-requires returns)
+    tie.close (tie.spec counter-block-requires encrypt-block-with-requires xor-block-requires returns)

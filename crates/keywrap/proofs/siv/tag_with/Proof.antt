@@ -14,14 +14,14 @@ hashed-requires c κs = search needs
 clear-top-requires : tie.Need-clear-top-requires
 clear-top-requires c κs = search needs
 
-encrypt-with-requires : tie.Need-encrypt-with-requires
-encrypt-with-requires c κs = search needs
+encrypt-block-with-requires : tie.Need-encrypt-block-with-requires
+encrypt-block-with-requires c κs = search needs
 
 returns : tie.Need-returns
 returns c =
-    c .encrypt-with .ensures
+    c .encrypt-block-with .ensures
     ∙ ap (cipher (schedule Aes256 (c .before .before .before .args .w .now)) 14) (c .before .clear-top .ensures ∙ ap clearTop (c .before .before .hashed .ensures))
 
 pub tag-with-spec : {M : Type 1} → statement M
 tag-with-spec =
-    tie.close (tie.spec hashed-requires clear-top-requires encrypt-with-requires returns)
+    tie.close (tie.spec hashed-requires clear-top-requires encrypt-block-with-requires returns)

@@ -1,4 +1,4 @@
--- The rounds from i down, of the state, are all rounds of the first state; the measure is i.
+-- As without a table: the rounds from i down, of the state, are all rounds of the first state; the measure is i.
 -- Assumes nothing.
 use mathlib.Core.Path.{_≡_, refl}
 use Prim.Native.Nat.{_-_, _<_}
@@ -6,16 +6,16 @@ use native.Mathlib.Omega.{arith}
 use borrow.Author.Needs.{needs}
 use Rattle.bits.specs.Words.{leWords}
 use Rattle.fips197.specs.InvCipher.{invRounds}
 use Rattle.aes.specs.Form.{bytesOf}
 use Rattle.aes.proofs.Rounds.{inv-rounds-more, inv-cipher-ends}
-use Rattle.aes.proofs.inv_cipher.inv_cipher_rounds.Statement.{statement}
-use Rattle.aes.proofs.inv_cipher.inv_cipher_rounds.Tie as tie
+use Rattle.aes_blocks.proofs.inv_cipher_by.Statement.{statement}
+use Rattle.aes_blocks.proofs.inv_cipher_by.Tie as tie
 
 abbrev Inv-loop : tie.InvT-loop
-Inv-loop t w n s₀ i₀ s i = (i < n) × (invRounds (leWords 4 w) i (bytesOf s) ≡ invRounds (leWords 4 w) (n - 1) (bytesOf s₀))
+Inv-loop m u w n s₀ i₀ s i = (i < n) × (invRounds (leWords 4 w) i (bytesOf s) ≡ invRounds (leWords 4 w) (n - 1) (bytesOf s₀))
 
 abbrev μ-loop : tie.MeasureT-loop
-μ-loop t w n s₀ i₀ s i = i
+μ-loop m u w n s₀ i₀ s i = i
 
 round-key-requires : tie.Need-round-key-requires Inv-loop μ-loop
 round-key-requires c κs = search needs
@@ -32,8 +32,8 @@ loop-holds c = (search needs, refl)
 round-key-requires-2 : tie.Need-round-key-requires-2 Inv-loop μ-loop
 round-key-requires-2 c κs = search needs
 
-inv-round-requires : tie.Need-inv-round-requires Inv-loop μ-loop
-inv-round-requires c κs = search needs
+inv-round-by-requires : tie.Need-inv-round-by-requires Inv-loop μ-loop
+inv-round-by-requires c κs = search needs
 
 sub-i-2 : tie.Need-sub-i-2 Inv-loop μ-loop
 sub-i-2 c = search needs
@@ -46,7 +46,7 @@ loop-again c =
     let at-loop = c .before .before .before in (
       omega arith,
       inv-rounds-more (leWords 4 (at-loop .before .before .before .args .w .now)) (at-loop .loop .i) (bytesOf (at-loop .loop .s)) (omega arith) (at-loop .loop .inv .1)
-          (c .before .round-key2 .ensures) (c .inv-round .ensures),
+          (c .before .round-key2 .ensures) (c .inv-round-by .ensures),
     )
 
 round-key-requires-3 : tie.Need-round-key-requires-3 Inv-loop μ-loop
@@ -63,8 +63,8 @@ returns c =
     (at-loop .before .before .round-key .ensures) (at-loop .before .add-round-key .ensures) (at-loop .loop .inv .1) (c .before .round-key3 .ensures)
     (c .inv-final-round .ensures)
 
-pub inv-cipher-rounds-spec : {M : Type 1} → statement M
-inv-cipher-rounds-spec =
+pub inv-cipher-by-spec : {M : Type 1} → statement M
+inv-cipher-by-spec =
     tie.close
     (tie.spec
     Inv-loop
@@ -74,7 +74,7 @@ inv-cipher-rounds-spec =
     sub-i
     loop-holds
     round-key-requires-2
-    inv-round-requires
+    inv-round-by-requires
     sub-i-2
     loop-less
     loop-again

@@ -1,0 +1,31 @@
+use Rattle.fips197.specs.Sbox.{sbox}
+use borrow.Author.Needs.{needs}
+use Rattle.aes_blocks.proofs.encrypt_blocks.Statement.{statement}
+use Rattle.aes_blocks.proofs.encrypt_blocks.Tie as tie
+
+sbox-table-requires : tie.Need-sbox-table-requires
+sbox-table-requires c κs = search needs
+
+fill-table-requires : tie.Need-fill-table-requires
+fill-table-requires c κs = search needs
+
+encrypt-blocks-with-requires : tie.Need-encrypt-blocks-with-requires
+encrypt-blocks-with-requires c κs =
+    let rule = c .before .before .before .before .before .before .sbox-table .ensures in
+    (c .before .before .before .fill-table .ensures sbox rule, rule)
+
+same-length : tie.Need-same-length
+same-length c = search needs
+
+returns : tie.Need-returns
+returns c = search needs
+
+pub encrypt-blocks-spec : {M : Type 1} → statement M
+encrypt-blocks-spec =
+    tie.close
+    (tie.spec
+    sbox-table-requires
+    fill-table-requires
+    encrypt-blocks-with-requires
+    same-length
+    returns)

@@ -1,0 +1,18 @@
+use mathlib.Core.Path.{ap, _∙_}
+use Rattle.fips197.specs.InvCipher.{invMixColumns, invRound}
+use borrow.Author.Needs.{needs}
+use Rattle.aes_blocks.proofs.inv_round_by.Statement.{statement}
+use Rattle.aes_blocks.proofs.inv_round_by.Tie as tie
+
+inv-final-round-requires : tie.Need-inv-final-round-requires
+inv-final-round-requires c κs = search needs
+
+inv-mix-by-requires : tie.Need-inv-mix-by-requires
+inv-mix-by-requires c κs = search needs
+
+returns : tie.Need-returns
+unfolding invRound
+returns c = c .inv-mix-by .ensures ∙ ap invMixColumns (c .before .inv-final-round .ensures)
+
+pub inv-round-by-spec : {M : Type 1} → statement M
+inv-round-by-spec = tie.close (tie.spec inv-final-round-requires inv-mix-by-requires returns)
