@@ -1,14 +1,14 @@
 // The eight uses of a handle (Intel 343965-001US 3.2 to 3.9), over one IWKey, the handle and the CPU record.
 ghost use mathlib.Core.Path.{_≡_};
-ghost use mathlib.Core.List.{List, [], _∷_};
-ghost use mathlib.Core.Option.{some};
-ghost use Prim.Native.Nat.{ℕ, _/_};
+ghost use mathlib.Core.List.{[], _∷_};
+ghost use Prim.Native.Nat.{_/_};
 ghost use lib.ListN.{length};
 ghost use Rattle.bits.specs.Blocks.{mapBlocks};
 ghost use Rattle.fips197.specs.Cipher.{mixRow};
 ghost use Rattle.fips197.specs.Sbox.{sbox, TableOf};
 ghost use Rattle.aes.specs.Form.{bytesOf, keyBytes};
 ghost use Rattle.aes_blocks.specs.Tables.{MixTable};
+ghost use Rattle.handle.specs.Wrap.{unwrapKey};
 ghost use Rattle.keywrap.specs.Form.{opened, paddedKey, handleBytes};
 ghost use Rattle.model.specs.Cpu.{cpl, withXmm, withZf, mapXmm};
 ghost use Rattle.model.specs.Instructions as model;
@@ -64,25 +64,20 @@ fn illegal(cpl: u8, size: KeySize, direction: Direction, aad: Block) -> bool
         | forbids(direction, w % 8)
 }
 
-// An illegal handle is not unwrapped, and no table is made for it; where a key comes back, the lent table is that of the cipher.
-pub fn opened_for(
-    t: &mut [u32; 256],
-    u: &[u8; 256],
-    k: IwKey,
-    cpl: u8,
-    size: KeySize,
-    direction: Direction,
-    h: Handle,
-) -> Unwrapped
-    requires { ⌜ length (now t) ≡ 256 ⌝ }
-    requires { ⌜ TableOf sbox (now u) ⌝ }
-    ensures { λ r. ⌜ opened r ≡ paddedKey (model.openedFor k cpl size direction (handleBytes size h)) ⌝ }
-    ensures { λ r. ⌜ ((key : List ℕ) → opened r ≡ some key → MixTable mixRow sbox 256 (now (t .exit))) ⌝ }
+// The same, at the CPU record's CPL.
+fn illegal_at(cpu: &[u8; 408], size: KeySize, direction: Direction, aad: Block) -> bool
+    requires { ⌜ length (now cpu) ≡ 408 ⌝ }
+    ensures { λ r. ⌜ r ≡ model.illegal (cpl (now (cpu .entry))) size direction (bytesOf aad) ⌝ }
 {
-    if illegal(cpl, size, direction, h.aad) {
-        return Unwrapped::Refused;
-    }
-    fill_table(Direction::Encrypt, u, t);
+    illegal(cpu::cpl(cpu), size, direction, aad)
+}
+
+// What the IWKey unwraps, by lent tables.
+pub fn unwrapped_by(t: &[u32; 256], u: &[u8; 256], k: IwKey, size: KeySize, h: Handle) -> Unwrapped
+    requires { ⌜ MixTable mixRow sbox 256 (now t) ⌝ }
+    requires { ⌜ TableOf sbox (now u) ⌝ }
+    ensures { λ r. ⌜ opened r ≡ paddedKey (unwrapKey (k .integrity) (k .encryption) (handleBytes size h)) ⌝ }
+{
     let integrity = k.integrity;
     let encryption = k.encryption;
     unwrap_with(
@@ -173,7 +168,7 @@ fn done_wide(
     c
 }
 
-// AESENC128KL, AESDEC128KL, AESENC256KL, AESDEC256KL.
+// AESENC128KL, AESDEC128KL, AESENC256KL, AESDEC256KL. An illegal handle is not unwrapped, and no table is made for it.
 pub fn use_single(
     direction: Direction,
     size: KeySize,
@@ -184,10 +179,13 @@ pub fn use_single(
 ) -> [u8; 408]
     ensures { λ r. ⌜ r ≡ model.ciphered direction size (block ∷ []) (model.openedFor k (cpl cpu) size direction (handleBytes size h)) cpu ⌝ }
 {
+    if illegal_at(&cpu, size, direction, h.aad) {
+        return failed(cpu);
+    }
     let u = sbox_table();
     let mut t = [0u32; 256];
-    let level = cpu::cpl(&cpu);
-    let Unwrapped::Key(key) = opened_for(&mut t, &u, k, level, size, direction, h) else {
+    fill_table(Direction::Encrypt, &u, &mut t);
+    let Unwrapped::Key(key) = unwrapped_by(&t, &u, k, size, h) else {
         return failed(cpu);
     };
     let b = cipher_block(&t, &u, direction, size, key, xmm(&cpu, block));
@@ -204,10 +202,13 @@ pub fn use_wide(
 ) -> [u8; 408]
     ensures { λ r. ⌜ r ≡ model.ciphered direction size (0 ∷ 1 ∷ 2 ∷ 3 ∷ 4 ∷ 5 ∷ 6 ∷ 7 ∷ []) (model.openedFor k (cpl cpu) size direction (handleBytes size h)) cpu ⌝ }
 {
+    if illegal_at(&cpu, size, direction, h.aad) {
+        return failed(cpu);
+    }
     let u = sbox_table();
     let mut t = [0u32; 256];
-    let level = cpu::cpl(&cpu);
-    let Unwrapped::Key(key) = opened_for(&mut t, &u, k, level, size, direction, h) else {
+    fill_table(Direction::Encrypt, &u, &mut t);
+    let Unwrapped::Key(key) = unwrapped_by(&t, &u, k, size, h) else {
         return failed(cpu);
     };
     done_wide(&t, &u, direction, size, key, cpu)
