@@ -90,7 +90,7 @@ fn cipher_rounds(t: &[u8; 256], w: &[u32; 60], n: usize, b: Block) -> Block
 }
 
 // One block, by a lent S-box.
-pub fn encrypt_with(t: &[u8; 256], size: KeySize, w: &[u32; 60], b: Block) -> Block
+fn encrypt_with(t: &[u8; 256], size: KeySize, w: &[u32; 60], b: Block) -> Block
     requires { ⌜ TableOf sbox (now t) ⌝ }
     ensures { λ r. ⌜ bytesOf r ≡ cipher (schedule size (now (w .entry))) (nr size) (bytesOf b) ⌝ }
 {

@@ -73,7 +73,7 @@ fn illegal_at(cpu: &[u8; 408], size: KeySize, direction: Direction, aad: Block) 
 }
 
 // What the IWKey unwraps, by lent tables.
-pub fn unwrapped_by(t: &[u32; 256], u: &[u8; 256], k: IwKey, size: KeySize, h: Handle) -> Unwrapped
+fn unwrapped_by(t: &[u32; 256], u: &[u8; 256], k: IwKey, size: KeySize, h: Handle) -> Unwrapped
     requires { ⌜ MixTable mixRow sbox 256 (now t) ⌝ }
     requires { ⌜ TableOf sbox (now u) ⌝ }
     ensures { λ r. ⌜ opened r ≡ paddedKey (unwrapKey (k .integrity) (k .encryption) (handleBytes size h)) ⌝ }

@@ -52,6 +52,8 @@ const CR0_TS: u8 = 3;
 
 const CPU_SIZE: usize = 408;
 
+const MEMORY_LIMIT: usize = 1048576;
+
 const RANDOM_SIZE: usize = 48;
 
 fn bit(i: u8, x: u8) -> bool
@@ -234,7 +236,7 @@ pub fn record_refusal(cpu: &[u8], memory: usize, random: usize) -> u8
     if (3 < cpl(cpu)) | zero_field_set(cpu) {
         return 5;
     }
-    if 1048576 < memory {
+    if MEMORY_LIMIT < memory {
         return 6;
     }
     if !((random == 0) | (random == RANDOM_SIZE)) {
