@@ -1,7 +1,7 @@
--- Every instruction decoded from a string of bytes fits.
+-- Every instruction decoded from a string of bytes fits; the block of a use is a register, whatever numbers stand in the string.
 -- Assumes nothing.
 use mathlib.Core.Path.{_≡_, refl, sym, ap, _∙_}
-use mathlib.Core.Bool.{Bool, true, false, cond, _&&_, _||_, true≢false}
+use mathlib.Core.Bool.{Bool, true, false, _&&_, _||_, true≢false}
 use mathlib.Core.List.{List}
 use Prim.Native.Nat.{ℕ, _+_, _/_, _%_, _≤_, _<_}
 use native.Mathlib.Omega.{arith}
@@ -12,12 +12,15 @@ use Rattle.bits.specs.Bytes.{Bytes}
 use Rattle.bits.proofs.Choice.{on-cond}
 use Rattle.bits.proofs.Lists.{bytes-at}
 use Rattle.isa.specs.Decode.{byteAt, extended, displacement32, displacementAt, placed, indexOf, sibOf, sibFrom, modrmOf, opcode, allowed, instructionOf, built, modrmFrom, opcodeFrom, mapFrom, escapeFrom, rexOf, rexFrom, repFrom, lockFrom, decodeAt}
-use Rattle.isa.specs.Fitting.{BaseFits, IndexFits, InMemory, InRegister, Fits}
+use Rattle.isa.specs.Fitting.{IndexFits, InMemory, InRegister, Fits}
 use Rattle.isa.specs.declared.Base.{Base}
 use Rattle.isa.specs.declared.Base.the-variants as base
 use Rattle.isa.specs.declared.Index.{Index}
 use Rattle.isa.specs.declared.Index.the-variants as index
+use Rattle.isa.specs.declared.Instruction.{Instruction}
+use Rattle.isa.specs.declared.Instruction.the-variants as instruction
 use Rattle.isa.specs.declared.Operand.{Operand}
+use Rattle.isa.specs.declared.Operand.the-variants as operand
 use Rattle.isa.specs.declared.Displacement.{Displacement}
 use Rattle.isa.specs.declared.Displacement.the-variants as displacement
 use Rattle.isa.specs.declared.Operands.{Operands}
@@ -38,10 +41,10 @@ abbrev OnOperands : (Operand → Type 0) → Operands → Type 0
 OnOperands P (operands.Found reg rm next) = (reg < 16) × P rm
 OnOperands P operands.End = Unit {0}
 
-on-placed : (reg : ℕ) (b : Base) (i : Index) (scale : ℕ) (d : Displacement) → reg < 16 → BaseFits b → IndexFits i → scale < 4
-    → OnOperands InMemory (placed reg b i scale d)
-on-placed reg b i scale (displacement.Found d next) h hb hi hs = (h, (hb, hi, hs))
-on-placed reg b i scale displacement.End h hb hi hs = tt
+on-placed : (P : Operand → Type 0) (reg : ℕ) (b : Base) (i : Index) (scale : ℕ) (d : Displacement) → reg < 16
+    → ((n : ℕ) → P (operand.Memory (record { base = b; index = i; scale = scale; displacement = n }))) → OnOperands P (placed reg b i scale d)
+on-placed P reg b i scale (displacement.Found d next) h f = (h, f d)
+on-placed P reg b i scale displacement.End h f = tt
 
 index-fits : (p : Prefixes) (sib : ℕ) → IndexFits (indexOf p sib)
 unfolding indexOf
@@ -53,8 +56,10 @@ unfolding sibOf
 on-sib s at p mode reg sib h l =
     let scale : sib / 64 < 4 = omega arith in
     on-cond (OnOperands InMemory) (eqb mode 0 && eqb (sib % 8) 5) _ _
-    (λ e. on-placed reg base.None (indexOf p sib) (sib / 64) (displacement32 s at) h tt (index-fits p sib) scale)
-    (λ e. on-placed reg (base.Register (extended (p .b) sib)) (indexOf p sib) (sib / 64) (displacementAt s at mode) h (extended-lt (p .b) sib) (index-fits p sib) scale)
+    (λ e. on-placed InMemory reg base.None (indexOf p sib) (sib / 64) (displacement32 s at) h (λ n. (tt, index-fits p sib, scale)))
+    (λ e.
+    on-placed InMemory reg (base.Register (extended (p .b) sib)) (indexOf p sib) (sib / 64) (displacementAt s at mode) h
+    (λ n. (extended-lt (p .b) sib, index-fits p sib, scale)))
 
 -- a byte that was read
 abbrev IsByte : Step → Type 0
@@ -78,8 +83,9 @@ module _ (s : List ℕ) (bytes : Bytes s) (at : ℕ) (p : Prefixes) (m : ℕ) wh
       on-cond (OnOperands InMemory) (eqb (m / 64) 3) _ _ (λ e. absurd (n (eqb-true (m / 64) 3 e)))
       (λ e. on-cond (OnOperands InMemory) (eqb (m % 8) 4) _ _ (λ f. on-sib-from s p (m / 64) reg (byteAt s at) h (read-byte s at bytes))
       (λ f. on-cond (OnOperands InMemory) (eqb (m / 64) 0 && eqb (m % 8) 5) _ _
-      (λ g. on-placed reg base.Rip index.None 0 (displacement32 s at) h tt tt (lit< tt))
-      (λ g. on-placed reg (base.Register (extended (p .b) m)) index.None 0 (displacementAt s at (m / 64)) h (extended-lt (p .b) m) tt (lit< tt))))
+      (λ g. on-placed InMemory reg base.Rip index.None 0 (displacement32 s at) h (λ n. (tt, tt, lit< tt)))
+      (λ g.
+      on-placed InMemory reg (base.Register (extended (p .b) m)) index.None 0 (displacementAt s at (m / 64)) h (λ n. (extended-lt (p .b) m, tt, lit< tt)))))
 
   on-register : m / 64 ≡ 3 → OnOperands InRegister (modrmOf s at p m)
   unfolding modrmOf
@@ -134,6 +140,40 @@ encode-register op m a b = go (leb 0xFA op) refl where
 
 -- ---- byte by byte
 
+-- what holds of the two refusals, and of all that is decoded from ModRM on, holds of every string
+module _ (s : List ℕ) (P : Decoded → Type 0) (bad : P decoded.BadByte) (ended : P decoded.EndOfString)
+    (modrm : (p : Prefixes) (op at : ℕ) → P (modrmFrom s p op (byteAt s at))) where
+  on-opcode : (p : Prefixes) (z : Step) → P (opcodeFrom s p z)
+  on-opcode p (step.Byte b next) = on-cond P (opcode b) _ _ (λ e. modrm p b next) (λ e. bad)
+  on-opcode p step.End = ended
+
+  on-map : (p : Prefixes) (z : Step) → P (mapFrom s p z)
+  on-map p (step.Byte b next) = on-cond P (eqb b 0x38) _ _ (λ e. on-opcode p (byteAt s next)) (λ e. bad)
+  on-map p step.End = ended
+
+  on-escape : (p : Prefixes) (z : Step) → P (escapeFrom s p z)
+  on-escape p (step.Byte b next) = on-cond P (eqb b 0x0F) _ _ (λ e. on-map p (byteAt s next)) (λ e. bad)
+  on-escape p step.End = ended
+
+  on-rex : (lock : Bool) (z : Step) → P (rexFrom s lock z)
+  on-rex lock (step.Byte b next) =
+      on-cond P (eqb (b / 16) 4) _ _ (λ e. on-escape (rexOf lock b) (byteAt s next)) (λ e. on-escape (rexOf lock 0) (step.Byte b next))
+  on-rex lock step.End = ended
+
+  on-rep : (lock : Bool) (z : Step) → P (repFrom s lock z)
+  on-rep lock (step.Byte b next) = on-cond P (eqb b 0xF3) _ _ (λ e. on-rex lock (byteAt s next)) (λ e. bad)
+  on-rep lock step.End = ended
+
+  on-lock : (z : Step) → P (lockFrom s z)
+  on-lock (step.Byte b next) = on-cond P (eqb b 0xF0) _ _ (λ e. on-rep true (byteAt s next)) (λ e. on-rep false (step.Byte b next))
+  on-lock step.End = ended
+
+  on-string : (at : ℕ) → P (decodeAt s at)
+  unfolding decodeAt
+  on-string at = on-lock (byteAt s at)
+
+-- ---- every string of bytes
+
 module _ (s : List ℕ) (bytes : Bytes s) where
   on-modrm : (p : Prefixes) (op : ℕ) (z : Step) → IsByte z → OnFound (modrmFrom s p op z)
   on-modrm p op (step.Byte m next) l = on-cond OnFound (allowed op m) _ _ (λ a. go a (leb 0xC0 m) refl) (λ a. tt) where
@@ -147,31 +187,53 @@ module _ (s : List ℕ) (bytes : Bytes s) where
         built-memory (p .lock) op m (modrmOf s next p m) (encode-register op m a e) e (on-memory s bytes next p m (λ q. omega arith))
   on-modrm p op step.End l = tt
 
-  on-opcode : (p : Prefixes) (z : Step) → OnFound (opcodeFrom s p z)
-  on-opcode p (step.Byte b next) = on-cond OnFound (opcode b) _ _ (λ e. on-modrm p b (byteAt s next) (read-byte s next bytes)) (λ e. tt)
-  on-opcode p step.End = tt
-
-  on-map : (p : Prefixes) (z : Step) → OnFound (mapFrom s p z)
-  on-map p (step.Byte b next) = on-cond OnFound (eqb b 0x38) _ _ (λ e. on-opcode p (byteAt s next)) (λ e. tt)
-  on-map p step.End = tt
-
-  on-escape : (p : Prefixes) (z : Step) → OnFound (escapeFrom s p z)
-  on-escape p (step.Byte b next) = on-cond OnFound (eqb b 0x0F) _ _ (λ e. on-map p (byteAt s next)) (λ e. tt)
-  on-escape p step.End = tt
-
-  on-rex : (lock : Bool) (z : Step) → OnFound (rexFrom s lock z)
-  on-rex lock (step.Byte b next) =
-      on-cond OnFound (eqb (b / 16) 4) _ _ (λ e. on-escape (rexOf lock b) (byteAt s next)) (λ e. on-escape (rexOf lock 0) (step.Byte b next))
-  on-rex lock step.End = tt
-
-  on-rep : (lock : Bool) (z : Step) → OnFound (repFrom s lock z)
-  on-rep lock (step.Byte b next) = on-cond OnFound (eqb b 0xF3) _ _ (λ e. on-rex lock (byteAt s next)) (λ e. tt)
-  on-rep lock step.End = tt
-
-  on-lock : (z : Step) → OnFound (lockFrom s z)
-  on-lock (step.Byte b next) = on-cond OnFound (eqb b 0xF0) _ _ (λ e. on-rep true (byteAt s next)) (λ e. on-rep false (step.Byte b next))
-  on-lock step.End = tt
-
   pub decoded-fits : (at : ℕ) → OnFound (decodeAt s at)
-  unfolding decodeAt
-  decoded-fits at = on-lock (byteAt s at)
+  decoded-fits = on-string s OnFound tt tt (λ p op at. on-modrm p op (byteAt s at) (read-byte s at bytes))
+
+-- ---- every list of numbers: the block of a use is a register
+
+abbrev pub OnBlock : Decoded → Type 0
+OnBlock (decoded.Found (instruction.Use u) lock next) = u .block < 16
+OnBlock (decoded.Found (instruction.WideUse u) lock next) = Unit {0}
+OnBlock (decoded.Found (instruction.LoadIwKey l) lock next) = Unit {0}
+OnBlock (decoded.Found (instruction.EncodeKey e) lock next) = Unit {0}
+OnBlock decoded.BadByte = Unit {0}
+OnBlock decoded.EndOfString = Unit {0}
+
+abbrev Any : Operand → Type 0
+Any o = Unit {0}
+
+module _ (s : List ℕ) where
+  reg-sib : (p : Prefixes) (mode reg : ℕ) (z : Step) → reg < 16 → OnOperands Any (sibFrom s p mode reg z)
+  unfolding sibOf
+  reg-sib p mode reg (step.Byte sib at) h =
+      on-cond (OnOperands Any) (eqb mode 0 && eqb (sib % 8) 5) _ _
+      (λ e. on-placed Any reg base.None (indexOf p sib) (sib / 64) (displacement32 s at) h (λ n. tt))
+      (λ e. on-placed Any reg (base.Register (extended (p .b) sib)) (indexOf p sib) (sib / 64) (displacementAt s at mode) h (λ n. tt))
+  reg-sib p mode reg step.End h = tt
+
+  reg-modrm : (at : ℕ) (p : Prefixes) (m : ℕ) → OnOperands Any (modrmOf s at p m)
+  unfolding modrmOf
+  reg-modrm at p m =
+      let reg = extended (p .r) (m / 8) in
+      let h = extended-lt (p .r) (m / 8) in
+      on-cond (OnOperands Any) (eqb (m / 64) 3) _ _ (λ e. (h, tt))
+      (λ e. on-cond (OnOperands Any) (eqb (m % 8) 4) _ _ (λ f. reg-sib p (m / 64) reg (byteAt s at) h)
+      (λ f. on-cond (OnOperands Any) (eqb (m / 64) 0 && eqb (m % 8) 5) _ _
+      (λ g. on-placed Any reg base.Rip index.None 0 (displacement32 s at) h (λ n. tt))
+      (λ g. on-placed Any reg (base.Register (extended (p .b) m)) index.None 0 (displacementAt s at (m / 64)) h (λ n. tt))))
+
+  block-built : (lock : Bool) (op m : ℕ) (o : Operands) → OnOperands Any o → OnBlock (built lock op m o)
+  unfolding instructionOf
+  block-built lock op m (operands.Found reg rm next) h =
+      let P : Instruction → Type 0 = λ i. OnBlock (decoded.Found i lock next) in
+      on-cond P (eqb op 0xD8) _ _ (λ e. tt) (λ e. on-cond P (leb 0xFA op) _ _ (λ f. tt) (λ f. on-cond P (leb 0xC0 m) _ _ (λ g. tt) (λ g. h .0)))
+  block-built lock op m operands.End h = tt
+
+  block-modrm : (p : Prefixes) (op : ℕ) (z : Step) → OnBlock (modrmFrom s p op z)
+  block-modrm p op (step.Byte m next) =
+      on-cond OnBlock (allowed op m) _ _ (λ a. block-built (p .lock) op m (modrmOf s next p m) (reg-modrm next p m)) (λ a. tt)
+  block-modrm p op step.End = tt
+
+  pub block-fits : (at : ℕ) → OnBlock (decodeAt s at)
+  block-fits = on-string s OnBlock tt tt (λ p op at. block-modrm p op (byteAt s at))

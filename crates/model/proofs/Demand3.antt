@@ -1,7 +1,7 @@
 -- Demand 3 holds: along every list of calls from a power-on that was not refused.
 -- Assumes nothing.
 use mathlib.Core.Path.{_≡_, _∙_, refl, sym, ap, subst}
-use mathlib.Core.Bool.{Bool, true, false, not, _&&_}
+use mathlib.Core.Bool.{Bool, true, not, _&&_}
 use mathlib.Core.List.{List, [], _∷_, _++_, append-assoc}
 use mathlib.Core.Option.{Option, none, some, Option·map, Option·some-injective, Option·none-ne-some}
 use Prim.Native.Nat.{ℕ, zero, _+_, _^_, _<_, _≤_}
@@ -9,7 +9,6 @@ use native.Mathlib.Omega.{arith}
 use lib.Dec.{T, eqb, ltb, lt→ltb}
 use lib.ListN.{length, take}
 use borrow.Author.Tests.{ltb-false}
-use Rattle.bits.specs.Bytes.{Bytes}
 use Rattle.bits.proofs.Choice.{and-both, T-true}
 use Rattle.isa.specs.Address.{effectiveAddress}
 use Rattle.isa.specs.Decode.{decode}
@@ -21,17 +20,17 @@ use Rattle.isa.specs.declared.Instruction.{Instruction}
 use Rattle.isa.specs.declared.Instruction.the-variants as instruction
 use Rattle.isa.specs.declared.Operand.{Operand}
 use Rattle.isa.specs.declared.Operand.the-variants as operand
-use Rattle.isa.proofs.Fitting.{OnFound, decoded-fits}
+use Rattle.isa.proofs.Fitting.{OnBlock, block-fits}
 use Rattle.isa.proofs.Ranges.{outside-ends, length-some}
 use Rattle.model.specs.Records.{processorAt}
 use Rattle.model.specs.Cpu.{xmm, zf}
 use Rattle.model.specs.Forms.{Form, single, wide, formOf, handleAddress, handleRead}
-use Rattle.model.specs.Calls.{PowerOn, StepCall, Call, step, read, write, settle, sleep, reset, stepOf, Answer, Outcome}
+use Rattle.model.specs.Calls.{PowerOn, StepCall, Call, step, read, write, settle, sleep, reset, Answer, Outcome}
 use Rattle.model.specs.Refusals.{View, refusal}
-use Rattle.model.specs.Instructions.{encodedHandle, encoded, used, execute, advanced, stepped, executed}
+use Rattle.model.specs.Instructions.{encodedHandle, used, execute, advanced, stepped, executed}
 use Rattle.model.specs.Execution.{perform, call, run, powerOn}
 use Rattle.model.specs.History.{keyOf, nameAt, atFirst, viewGiven, history, refusals}
-use Rattle.model.specs.Demand3.{Encode, encodeMade, encodeIn, UseMade, useMade, useIn, encodeOf, useOf, Agree, Works, answerAt, given, allOf, everyName, ByteStrings, Demand3}
+use Rattle.model.specs.Demand3.{Encode, encodeMade, encodeIn, UseMade, useMade, useIn, encodeOf, useOf, Agree, Works, answerAt, given, allOf, everyName, Demand3}
 use Rattle.model.specs.declared.IwKey.{IwKey}
 use Rattle.model.specs.declared.Machine.{Machine}
 use Rattle.model.proofs.Parts.{part-length}
@@ -105,16 +104,16 @@ execute-form memory random (instruction.EncodeKey e) bytes k cpu f q = absurd (O
 
 -- ---- the blocks of a use are registers, and its handle is in memory
 
-form-registers : (s : List ℕ) → Bytes s → (what : Instruction) (lock : Bool) (bytes : ℕ) (f : Form) → decode s ≡ decoded.Found what lock bytes
+form-registers : (s : List ℕ) (what : Instruction) (lock : Bool) (bytes : ℕ) (f : Form) → decode s ≡ decoded.Found what lock bytes
     → _≡_ {A = Option Form} (formOf what) (some f) → T (registers (f .blocks))
-form-registers s b (instruction.Use u) lock bytes f r q =
-    let fits = subst OnFound r (decoded-fits s b 0) in
+form-registers s (instruction.Use u) lock bytes f r q =
+    let fits : u .block < 16 = subst OnBlock r (block-fits s 0) in
     subst (λ (x : Form). T (registers (x .blocks))) (Option·some-injective (single u) f q)
-    (and-both (ltb (u .block) 16 && true) true (and-both (ltb (u .block) 16) true (lt→ltb (u .block) 16 (fits .0)) tt) tt)
-form-registers s b (instruction.WideUse u) lock bytes f r q =
+    (and-both (ltb (u .block) 16 && true) true (and-both (ltb (u .block) 16) true (lt→ltb (u .block) 16 fits) tt) tt)
+form-registers s (instruction.WideUse u) lock bytes f r q =
     subst (λ (x : Form). T (registers (x .blocks))) (Option·some-injective (wide u) f q) tt
-form-registers s b (instruction.LoadIwKey l) lock bytes f r q = absurd (Option·none-ne-some f q)
-form-registers s b (instruction.EncodeKey e) lock bytes f r q = absurd (Option·none-ne-some f q)
+form-registers s (instruction.LoadIwKey l) lock bytes f r q = absurd (Option·none-ne-some f q)
+form-registers s (instruction.EncodeKey e) lock bytes f r q = absurd (Option·none-ne-some f q)
 
 address-lt : (cpu : List ℕ) (bytes : ℕ) (o : Operand) → handleAddress cpu bytes o .linear < 2 ^ 64
 unfolding effectiveAddress
@@ -184,15 +183,14 @@ module _ (p : PowerOn) (m : Machine) (first : Holds p [] m (atFirst p)) where
     same-key q =
         ap (keyOf between) (sym q) ∙ key-more p xs (step s ∷ ys) name (name-given p xs (machineAfter xs) (history p xs) (holds xs) (s .processor))
 
-    steps-work : Bytes (t .string)
-        → (i : EncodeKey) (lock : Bool) (bytes : ℕ) → decode (s .string) ≡ decoded.Found (instruction.EncodeKey i) lock bytes
+    steps-work : (i : EncodeKey) (lock : Bool) (bytes : ℕ) → decode (s .string) ≡ decoded.Found (instruction.EncodeKey i) lock bytes
         → call (machineAfter xs) (step s) .answer .number ≡ 0
         → (what : Instruction) (lock′ : Bool) (bytes′ : ℕ) (f : Form) → decode (t .string) ≡ decoded.Found what lock′ bytes′
         → _≡_ {A = Option Form} (formOf what) (some f) → call (machineAfter between) (step t) .answer .number ≡ 0
         → name ≡ nameAt (t .processor) (history p between)
         → Agree (useMade t bytes′ f .bytesRead) (take (handleLength (i .size)) (call (machineAfter xs) (step s) .answer .cpu))
         → Works (encodeMade s i) (useMade t bytes′ f) (call (machineAfter between) (step t) .answer .cpu)
-    steps-work b i lock bytes r ne what lock′ bytes′ f r′ q nu names agree =
+    steps-work i lock bytes r ne what lock′ bytes′ f r′ q nu names agree =
         let k = keyOf xs name in
         let l = cpu-length (viewGiven p) s (not-refused xs (step s) ne) in
         let accepted = not-refused between (step t) nu in
@@ -205,20 +203,19 @@ module _ (p : PowerOn) (m : Machine) (first : Holds p [] m (atFirst p)) where
         ∙ ap (advanced bytes′)
         (execute-form (t .memory) (t .random) what bytes′ (keyOf between (nameAt (t .processor) (history p between))) (t .cpu) f q)
         ∙ ap (λ (x : IwKey). advanced bytes′ (used (t .memory) bytes′ f x (t .cpu))) (same-key names) in
-        let fits = form-registers (t .string) b what lock′ bytes′ f r′ q in
+        let fits = form-registers (t .string) what lock′ bytes′ f r′ q in
         let n = read-length (viewGiven p) t accepted what lock′ bytes′ f r′ q in (
           ap zf after ∙ use-zf i k (s .cpu) l (t .memory) bytes′ f fits (t .cpu) l′ n same,
           λ j h. ap (xmm j) after ∙ use-xmm i k (s .cpu) l (t .memory) bytes′ f fits (t .cpu) l′ n same j h,
         )
 
   use-works : (xs : List Call) (e : Call) (ys : List Call) (u : Call)
-      → ((t : StepCall) → _≡_ {A = Option StepCall} (stepOf u) (some t) → Bytes (t .string))
       → (encode : Encode) → _≡_ {A = Option Encode} (encodeOf e) (some encode) → call (machineAfter xs) e .answer .number ≡ 0
       → (made : UseMade) → _≡_ {A = Option UseMade} (useOf u) (some made) → call (machineAfter (xs ++ e ∷ ys)) u .answer .number ≡ 0
       → nameAt (encode .processor) (history p xs) ≡ nameAt (made .processor) (history p (xs ++ e ∷ ys))
       → Agree (made .bytesRead) (take (handleLength (encode .size)) (call (machineAfter xs) e .answer .cpu))
       → Works encode made (call (machineAfter (xs ++ e ∷ ys)) u .answer .cpu)
-  use-works xs e ys u b encode qe ne made qu nu =
+  use-works xs e ys u encode qe ne made qu nu =
       encode-cases
       (λ c x.
       call (machineAfter xs) c .answer .number ≡ 0 → call (machineAfter (xs ++ c ∷ ys)) u .answer .number ≡ 0
@@ -228,21 +225,16 @@ module _ (p : PowerOn) (m : Machine) (first : Holds p [] m (atFirst p)) where
       (λ s i lock bytes r.
       use-cases
       (λ c y.
-      ((t : StepCall) → _≡_ {A = Option StepCall} (stepOf c) (some t) → Bytes (t .string))
-      → call (machineAfter xs) (step s) .answer .number ≡ 0 → call (machineAfter (xs ++ step s ∷ ys)) c .answer .number ≡ 0
+      call (machineAfter xs) (step s) .answer .number ≡ 0 → call (machineAfter (xs ++ step s ∷ ys)) c .answer .number ≡ 0
       → nameAt (s .processor) (history p xs) ≡ nameAt (y .processor) (history p (xs ++ step s ∷ ys))
       → Agree (y .bytesRead) (take (handleLength (i .size)) (call (machineAfter xs) (step s) .answer .cpu))
       → Works (encodeMade s i) y (call (machineAfter (xs ++ step s ∷ ys)) c .answer .cpu))
-      (λ t what lock′ bytes′ f r′ q b′ ne′ nu′ names agree.
-      steps-work xs s ys t (b′ t refl) i lock bytes r ne′ what lock′ bytes′ f r′ q nu′ names agree)
-      u made qu b)
+      (λ t what lock′ bytes′ f r′ q ne′ nu′ names agree.
+      steps-work xs s ys t i lock bytes r ne′ what lock′ bytes′ f r′ q nu′ names agree)
+      u made qu)
       e encode qe ne nu
 
 -- ---- the theorem
-
-strings-at : (xs : List Call) (u : Call) (zs : List Call) → ByteStrings (xs ++ u ∷ zs) → (t : StepCall) → _≡_ {A = Option StepCall} (stepOf u) (some t) → Bytes (t .string)
-strings-at [] u zs b = b .0
-strings-at (x ∷ xs) u zs b = strings-at xs u zs (b .1)
 
 pub never : (p : PowerOn) (calls : List Call) → allOf (λ n. not (eqb n 1)) (refusals p calls) ≡ true
 never p calls = T-true (allOf (λ n. not (eqb n 1)) (refusals p calls)) (go calls)
@@ -257,8 +249,8 @@ power-on-holds p ok =
     let valid = power-on-valid p ok in
     subst (λ (x : Machine). Holds p [] x (atFirst p)) (sym (valid .0)) (holds-first p (valid .1))
 
-pub demand-3 : (p : PowerOn) → powerOn p .answer .number ≡ 0 → (calls : List Call) → ByteStrings calls → Demand3 p calls (run (powerOn p .machine) calls)
-demand-3 p ok calls b =
+pub demand-3 : (p : PowerOn) → powerOn p .answer .number ≡ 0 → (calls : List Call) → Demand3 p calls (run (powerOn p .machine) calls)
+demand-3 p ok calls =
     let m = powerOn p .machine in
     let first = power-on-holds p ok in
     let last = holds p m first calls in
@@ -276,7 +268,7 @@ demand-3 p ok calls b =
           let gets : answerAt r (length (xs ++ e ∷ ys)) ≡ call (run m (xs ++ e ∷ ys) .machine) u .answer =
           ap (λ (l : List Call). answerAt (run m l) (length (xs ++ e ∷ ys))) again ∙ answer-at m (xs ++ e ∷ ys) u zs in
           subst (λ (a : Answer). Works encode made (a .cpu)) (sym gets)
-          (use-works p m first xs e ys u (strings-at (xs ++ e ∷ ys) u zs (subst ByteStrings again b)) encode qe
+          (use-works p m first xs e ys u encode qe
           (ap (λ (a : Answer). a .number) (sym gave) ∙ ne) made qu
           (ap (λ (a : Answer). a .number) (sym gets) ∙ nu) names
           (subst (λ (a : Answer). Agree (made .bytesRead) (take (handleLength (encode .size)) (a .cpu))) gave agree));

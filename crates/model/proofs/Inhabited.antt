@@ -1,17 +1,13 @@
--- Demand 3 says something of uses: six lists that meet its hypotheses, and what it gives for each.
+-- Demand 3 says something of uses: six lists that meet its hypotheses, one with XMM15 and one with a wide form among them, and what it gives for each.
 -- Assumes nothing.
 use mathlib.Core.Path.{_≡_, _∙_, refl, sym, ap, subst}
-use mathlib.Core.Bool.{Bool, true, _&&_}
 use mathlib.Core.List.{List, [], _∷_, _++_, append-assoc}
-use mathlib.Core.Option.{Option, none, some, Option·some-injective, Option·none-ne-some}
-use Prim.Native.Nat.{ℕ, zero, suc, _≤_}
+use mathlib.Core.Option.{none, some}
+use Prim.Native.Nat.{ℕ, zero, suc, _+_, _≤_}
 use native.Mathlib.Nat.{not-suc-le-zero, le-of-suc-le-suc}
 use native.Mathlib.Omega.{arith}
-use lib.Dec.{T, ltb, ltb→lt}
 use lib.ListN.{length, getD, take, replicate, List·getD-map}
 use lib.Seq.{sets, length-sets, take-nil, length-take-le, getD-append-seam}
-use Rattle.bits.specs.Bytes.{Bytes}
-use Rattle.bits.proofs.Choice.{and-left, and-right}
 use Rattle.aes.specs.declared.Direction.the-variants.{Encrypt}
 use Rattle.aes.specs.declared.KeySize.{KeySize}
 use Rattle.aes.specs.declared.KeySize.the-variants.{Aes128, Aes256}
@@ -25,12 +21,12 @@ use Rattle.isa.specs.declared.Operand.{Operand}
 use Rattle.isa.specs.declared.Operand.the-variants as operand
 use Rattle.model.specs.Records.{processorAt}
 use Rattle.model.specs.Cpu.{cpuSize, cplAt, xmm, zf, withXmm}
-use Rattle.model.specs.Calls.{StepCall, Call, step, reset, stepOf, Answer}
+use Rattle.model.specs.Calls.{StepCall, Call, step, reset, Answer}
 use Rattle.model.specs.Refusals.{tests, refusal}
 use Rattle.model.specs.Instructions.{encoded, aes, advanced, executed}
 use Rattle.model.specs.Execution.{perform, call, run, powerOn}
 use Rattle.model.specs.History.{viewGiven, nameAt, copiedOut, settledNames, moved, history}
-use Rattle.model.specs.Demand3.{Encode, UseMade, encodeOf, useOf, allOf, Agree, Works, answerAt, ByteStrings, Demand3}
+use Rattle.model.specs.Demand3.{Encode, UseMade, encodeOf, useOf, Agree, Works, answerAt, Demand3}
 use Rattle.model.specs.Examples.{rax, on, encrypt, encodeKey128}
 use Rattle.model.specs.declared.IwKey.{IwKey}
 use Rattle.model.specs.declared.Machine.{Machine}
@@ -41,7 +37,8 @@ use Rattle.model.proofs.Examples.{spelled, spelled-eq}
 
 -- ---- lists that end in a use of a handle encoded in them
 
--- the calls before the encode, its source, the calls between; the use's processor, CPL, string, what that string is, and the memory behind the handle
+-- the calls before the encode, its source, the calls between; the use's processor, CPL and string, the key size and blocks that the string has, and the
+-- memory behind the handle
 record Case : Type 0 where
   before : List Call
   source : ℕ
@@ -50,17 +47,23 @@ record Case : Type 0 where
   cpl : ℕ
   string : List ℕ
   size : KeySize
+  blocks : List ℕ
   tail : List ℕ
 
 abbrev machine : Machine
 machine = powerOn two .machine
 
--- the encoded key, and the block
+-- the encoded key
 abbrev key : List ℕ
 key = replicate 16 0x33
 
-abbrev block : List ℕ
-block = replicate 16 0x44
+-- what stands in each XMM register before the use, and all of them
+abbrev block : ℕ → List ℕ
+block i = replicate 16 (0x40 + i)
+
+abbrev blocksUpTo : ℕ → List ℕ
+blocksUpTo zero = []
+blocksUpTo (suc n) = blocksUpTo n ++ block n
 
 -- [rax]
 abbrev atRax : Operand
@@ -76,7 +79,7 @@ module _ (c : Case) where
   handle = take 48 (call (run machine (c .before) .machine) (step encode) .answer .cpu)
 
   abbrev useCpu : List ℕ
-  useCpu = sets (withXmm 0 block (rax 0)) cplAt (c .cpl ∷ [])
+  useCpu = sets (sets (rax 0) 0 (blocksUpTo 16)) cplAt (c .cpl ∷ [])
 
   -- the use, over a memory
   abbrev useOver : List ℕ → StepCall
@@ -100,40 +103,13 @@ module _ (c : Case) where
       record {
         processor = c .processor;
         cpu = useCpu;
-        form = record { direction = Encrypt; size = c .size; blocks = 0 ∷ []; handle = atRax };
+        form = record { direction = Encrypt; size = c .size; blocks = c .blocks; handle = atRax };
         bytesRead = take (handleLength (c .size)) memory;
       }
 
   -- the CPU record after the use
   abbrev after : List ℕ
   after = answerAt (run machine calls) (length upTo) .cpu
-
--- ---- strings of bytes, as a test
-
-abbrev small : List ℕ → Bool
-small l = allOf (λ b. ltb b 256) l
-
-small-bytes : (l : List ℕ) → T (small l) → Bytes l
-small-bytes [] t = tt
-small-bytes (b ∷ l) t = (ltb→lt b 256 (and-left (ltb b 256) (small l) t), small-bytes l (and-right (ltb b 256) (small l) t))
-
-abbrev smallString : Option StepCall → Bool
-smallString none = true
-smallString (some s) = small (s .string)
-
-string-bytes : (o : Option StepCall) → T (smallString o) → (s : StepCall) → _≡_ {A = Option StepCall} o (some s) → Bytes (s .string)
-string-bytes none t s q = absurd (Option·none-ne-some s q)
-string-bytes (some r) t s q = subst (λ (x : StepCall). Bytes (x .string)) (Option·some-injective r s q) (small-bytes (r .string) t)
-
-abbrev smallStrings : List Call → Bool
-smallStrings [] = true
-smallStrings (c ∷ l) = smallString (stepOf c) && smallStrings l
-
-strings-bytes : (l : List Call) → T (smallStrings l) → ByteStrings l
-strings-bytes [] t = tt
-strings-bytes (c ∷ l) t =
-    let a = smallString (stepOf c) in
-    (string-bytes (stepOf c) (and-left a (smallStrings l) t), strings-bytes l (and-right a (smallStrings l) t))
 
 -- ---- the theorem on such a list
 
@@ -145,7 +121,6 @@ record Meets (c : Case) : Type 0 where
   use-accepted : (h : List ℕ) → refusal (viewGiven two) (step (useOver c (spelled 48 h ++ c .tail))) ≡ 0
   encode-name : nameAt 0 (history two (c .before)) ≡ 1
   use-name : nameAt (c .processor) (history two (upTo c)) ≡ 1
-  strings : T (smallStrings (calls c))
 
 -- bytes in front of a memory agree with what is read from its front
 agree-front : (h tail : List ℕ) (n : ℕ) → length h ≤ n → Agree (take n (h ++ tail)) h
@@ -169,7 +144,7 @@ answer-length m c =
 
 module _ (c : Case) (m : Meets c) where
   demand : Demand3 two (calls c) (run machine (calls c))
-  demand = demand-3 two refl (calls c) (strings-bytes (calls c) (m .strings))
+  demand = demand-3 two refl (calls c)
 
   number-at : (xs : List Call) (d : Call) (ys : List Call) → calls c ≡ xs ++ d ∷ ys → refusal (viewGiven two) d ≡ 0
       → answerAt (run machine (calls c)) (length xs) .number ≡ 0
@@ -209,63 +184,91 @@ module _ (c : Case) (m : Meets c) where
 abbrev loaded : List Call
 loaded = load 0 0 [] 0x11 ∷ []
 
--- AESENC256KL xmm0, [rax]
-abbrev encrypt256 : List ℕ
-encrypt256 = 0xF3 ∷ 0x0F ∷ 0x38 ∷ 0xDE ∷ 0x00 ∷ []
+-- after a load, a use at CPL 0
+abbrev by : List ℕ → KeySize → List ℕ → ℕ → List Call → ℕ → Case
+by string size blocks source between processor =
+    record {
+      before = loaded;
+      source = source;
+      between = between;
+      processor = processor;
+      cpl = 0;
+      string = string;
+      size = size;
+      blocks = blocks;
+      tail = replicate 16 0;
+    }
 
--- after a load; AESENC128KL over the handle at CPL 0
+-- AESENC128KL xmm0, [rax]
 abbrev plainly : ℕ → List Call → ℕ → Case
-plainly source between processor =
-    record { before = loaded; source = source; between = between; processor = processor; cpl = 0; string = encrypt; size = Aes128; tail = [] }
+plainly = by encrypt Aes128 (0 ∷ [])
 
 abbrev otherProcessor : Case
 otherProcessor = plainly 0 (out 0 ∷ into 1 ∷ []) 1
 
+-- AESENC128KL xmm15, [rax]
 abbrev oldStore : Case
-oldStore = plainly 0 (out 0 ∷ settling 0 ∷ sleeping 0 ∷ into 0 ∷ []) 0
+oldStore = by (0xF3 ∷ 0x44 ∷ 0x0F ∷ 0x38 ∷ 0xDC ∷ 0x38 ∷ []) Aes128 (15 ∷ []) 0 (out 0 ∷ settling 0 ∷ sleeping 0 ∷ into 0 ∷ []) 0
 
+-- AESENCWIDE128KL [rax]
 abbrev newStore : Case
-newStore = plainly 0 (out 0 ∷ sleeping 1 ∷ into 0 ∷ []) 0
+newStore =
+    by (0xF3 ∷ 0x0F ∷ 0x38 ∷ 0xD8 ∷ 0x00 ∷ []) Aes128 (0 ∷ 1 ∷ 2 ∷ 3 ∷ 4 ∷ 5 ∷ 6 ∷ 7 ∷ []) 0 (out 0 ∷ sleeping 1 ∷ into 0 ∷ []) 0
 
+-- AESENC256KL xmm0, [rax]
 abbrev otherSize : Case
-otherSize = record { before = loaded; source = 0; between = []; processor = 0; cpl = 0; string = encrypt256; size = Aes256; tail = replicate 16 0 }
+otherSize = by (0xF3 ∷ 0x0F ∷ 0x38 ∷ 0xDE ∷ 0x00 ∷ []) Aes256 (0 ∷ []) 0 [] 0
 
 abbrev unprivileged : Case
-unprivileged = record { before = loaded; source = 1; between = []; processor = 0; cpl = 3; string = encrypt; size = Aes128; tail = [] }
+unprivileged =
+    record {
+      before = loaded;
+      source = 1;
+      between = [];
+      processor = 0;
+      cpl = 3;
+      string = encrypt;
+      size = Aes128;
+      blocks = 0 ∷ [];
+      tail = [];
+    }
 
 abbrev otherDirection : Case
 otherDirection = plainly 2 [] 0
 
--- the first three are allowed, the others forbidden
-abbrev Each : (Case → Type 0) → (Case → Type 0) → Type 0
-Each P Q = P otherProcessor × P oldStore × P newStore × Q otherSize × Q unprivileged × Q otherDirection
-
-met : Each Meets Meets
+met : Meets otherProcessor × Meets oldStore × Meets newStore × Meets otherSize × Meets unprivileged × Meets otherDirection
 unfolding refusal tests moved copiedOut settledNames decodeAt modrmOf sibOf indexOf displacementAt displacement32 instructionOf effectiveAddress
     someNotCanonical someOutside
 met = (
-  record { encodes = refl; encode-accepted = refl; uses = λ m. refl; use-accepted = λ h. refl; encode-name = refl; use-name = refl; strings = tt },
-  record { encodes = refl; encode-accepted = refl; uses = λ m. refl; use-accepted = λ h. refl; encode-name = refl; use-name = refl; strings = tt },
-  record { encodes = refl; encode-accepted = refl; uses = λ m. refl; use-accepted = λ h. refl; encode-name = refl; use-name = refl; strings = tt },
-  record { encodes = refl; encode-accepted = refl; uses = λ m. refl; use-accepted = λ h. refl; encode-name = refl; use-name = refl; strings = tt },
-  record { encodes = refl; encode-accepted = refl; uses = λ m. refl; use-accepted = λ h. refl; encode-name = refl; use-name = refl; strings = tt },
-  record { encodes = refl; encode-accepted = refl; uses = λ m. refl; use-accepted = λ h. refl; encode-name = refl; use-name = refl; strings = tt },
+  record { encodes = refl; encode-accepted = refl; uses = λ m. refl; use-accepted = λ h. refl; encode-name = refl; use-name = refl },
+  record { encodes = refl; encode-accepted = refl; uses = λ m. refl; use-accepted = λ h. refl; encode-name = refl; use-name = refl },
+  record { encodes = refl; encode-accepted = refl; uses = λ m. refl; use-accepted = λ h. refl; encode-name = refl; use-name = refl },
+  record { encodes = refl; encode-accepted = refl; uses = λ m. refl; use-accepted = λ h. refl; encode-name = refl; use-name = refl },
+  record { encodes = refl; encode-accepted = refl; uses = λ m. refl; use-accepted = λ h. refl; encode-name = refl; use-name = refl },
+  record { encodes = refl; encode-accepted = refl; uses = λ m. refl; use-accepted = λ h. refl; encode-name = refl; use-name = refl },
 )
 
--- ZF is 0, and the block is AES of it
-abbrev Allowed : Case → Type 0
-Allowed c = (zf (after c) ≡ 0) × (xmm 0 (after c) ≡ aes Encrypt Aes128 key block)
+-- ZF is 0, register i holds AES of its block, and register j, which is none of the use's, keeps its own
+abbrev Allowed : Case → ℕ → ℕ → Type 0
+Allowed c i j = (zf (after c) ≡ 0) × (xmm i (after c) ≡ aes Encrypt Aes128 key (block i)) × (xmm j (after c) ≡ block j)
 
--- ZF is 1, and the block is unchanged
-abbrev Forbidden : Case → Type 0
-Forbidden c = (zf (after c) ≡ 1) × (xmm 0 (after c) ≡ block)
+-- ZF is 1, and register i keeps its block
+abbrev Forbidden : Case → ℕ → Type 0
+Forbidden c i = (zf (after c) ≡ 1) × (xmm i (after c) ≡ block i)
 
-pub six-uses : Each Allowed Forbidden
-six-uses = (
-  (works otherProcessor (met .0) .0, works otherProcessor (met .0) .1 0 (omega arith)),
-  (works oldStore (met .1) .0, works oldStore (met .1) .1 0 (omega arith)),
-  (works newStore (met .2) .0, works newStore (met .2) .1 0 (omega arith)),
-  (works otherSize (met .3) .0, works otherSize (met .3) .1 0 (omega arith)),
-  (works unprivileged (met .4) .0, works unprivileged (met .4) .1 0 (omega arith)),
-  (works otherDirection (met .5) .0, works otherDirection (met .5) .1 0 (omega arith)),
-)
+pub six-uses : Allowed otherProcessor 0 1 × Allowed oldStore 15 7 × Allowed newStore 7 8 × Forbidden otherSize 0 × Forbidden unprivileged 0
+    × Forbidden otherDirection 0
+six-uses =
+    let a = works otherProcessor (met .0) in
+    let b = works oldStore (met .1) in
+    let c = works newStore (met .2) in
+    let d = works otherSize (met .3) in
+    let e = works unprivileged (met .4) in
+    let f = works otherDirection (met .5) in (
+      (a .0, a .1 0 (omega arith), a .1 1 (omega arith)),
+      (b .0, b .1 15 (omega arith), b .1 7 (omega arith)),
+      (c .0, c .1 7 (omega arith), c .1 8 (omega arith)),
+      (d .0, d .1 0 (omega arith)),
+      (e .0, e .1 0 (omega arith)),
+      (f .0, f .1 0 (omega arith)),
+    )

@@ -13,7 +13,7 @@ use Rattle.model.specs.Calls.{PowerOn, Call, Outcome}
 use Rattle.model.specs.Validity.{validCount, validFeatures}
 use Rattle.model.specs.Refusals.{test, first}
 use Rattle.model.specs.Execution.{fresh, powerOnRefusal, done, powerOn, call, Run, run}
-use Rattle.model.specs.Demand3.{ByteStrings, Demand3}
+use Rattle.model.specs.Demand3.{Demand3}
 use Rattle.model.specs.Layout.{machineSize, machineBytes, machineAt, Shaped}
 use Rattle.model.specs.Lent.{Lent, powerOnLentRefusal, powerOnLent, callLent, runLent}
 use Rattle.model.specs.declared.Machine.{Machine}
@@ -79,10 +79,10 @@ power-on-lent block p e =
 
 -- ---- demand 3 on one lent block
 
-pub demand-3-lent : (block : List ℕ) (p : PowerOn) → powerOnLent block p .answer .number ≡ 0 → (calls : List Call) → ByteStrings calls
+pub demand-3-lent : (block : List ℕ) (p : PowerOn) → powerOnLent block p .answer .number ≡ 0 → (calls : List Call)
     → Demand3 p calls (runLent (powerOnLent block p .block) calls)
-demand-3-lent block p ok calls b =
+demand-3-lent block p ok calls =
     let on = power-on-lent block p ok in
     let m = powerOn p .machine in
     let shaped : Shaped m = subst Shaped (sym (power-on-valid p (on .2) .0)) (fresh-shaped (p .count) (p .features)) in
-    subst (Demand3 p calls) (sym (ap (λ (t : List ℕ). runLent t calls) (on .1) ∙ run-lent calls m shaped)) (demand-3 p (on .2) calls b)
+    subst (Demand3 p calls) (sym (ap (λ (t : List ℕ). runLent t calls) (on .1) ∙ run-lent calls m shaped)) (demand-3 p (on .2) calls)

@@ -7,7 +7,6 @@ use mathlib.Core.Option.{Option, none, some, Option·map}
 use Prim.Native.Nat.{ℕ, zero, suc, _*_, _<_}
 use lib.Dec.{eqb, ltb}
 use lib.ListN.{length, getD, take}
-use Rattle.bits.specs.Bytes.{Bytes}
 use Rattle.aes.specs.Form.{nk}
 use Rattle.aes.specs.declared.Direction.{Direction}
 use Rattle.aes.specs.declared.Direction.the-variants.{Encrypt, Decrypt}
@@ -21,7 +20,7 @@ use Rattle.isa.specs.declared.Instruction.the-variants as instruction
 use Rattle.model.specs.Numbers.{bit}
 use Rattle.model.specs.Cpu.{xmm, register, cpl, zf}
 use Rattle.model.specs.Forms.{Form, formOf, registerOf, handleRead}
-use Rattle.model.specs.Calls.{PowerOn, StepCall, Call, step, read, write, settle, sleep, reset, stepOf, Answer}
+use Rattle.model.specs.Calls.{PowerOn, StepCall, Call, step, read, write, settle, sleep, reset, Answer}
 use Rattle.model.specs.Instructions.{aes}
 use Rattle.model.specs.Execution.{Run}
 use Rattle.model.specs.History.{History, keyOf, nameAt, callAt, loads, history, refusals}
@@ -180,11 +179,6 @@ abbrev pub answerAt : Run → ℕ → Answer
 answerAt r i = getD (r .answers) i (record { number = 0; cpu = []; buffer = []; value = 0 })
 
 -- ---- the demand
-
--- the strings of a list hold bytes; every real list meets this, since a string is lent as bytes
-abbrev pub ByteStrings : List Call → Type 0
-ByteStrings [] = Unit {0}
-ByteStrings (c ∷ l) = ((s : StepCall) → stepOf c ≡ some s → Bytes (s .string)) × ByteStrings l
 
 -- after a power-on p that was not refused, the calls were made and gave r
 pub record Demand3 (p : PowerOn) (calls : List Call) (r : Run) : Type 0 where
