@@ -1,26 +1,84 @@
--- A call by value, through the layout.
+-- A call by value, through the layout, keeps its promise.
 -- Assumes nothing.
-use mathlib.Core.Path.{_≡_, _∙_, refl, sym, ap}
+use mathlib.Core.Path.{_≡_, _∙_, refl, sym, ap, subst}
 use mathlib.Core.Bool.{Bool, true, false, cond, not, _&&_, and-assoc}
 use mathlib.Core.List.{List, []}
 use Prim.Native.Nat.{ℕ}
+use native.Mathlib.Nat.{suc-ne-zero}
 use lib.Dec.{eqb}
 use lib.ListN.{length}
-use borrow.Author.Tests.{eqb-true, eq-eqb, ne-eqb}
-use Rattle.bits.proofs.Choice.{cond-on, cond-off}
-use Rattle.model.specs.Calls.{PowerOn, StepCall, Call, step}
+use borrow.Author.Tests.{eqb-true, eqb-false, eq-eqb, ne-eqb}
+use Rattle.bits.proofs.Choice.{cond-on, cond-off, on-cond}
+use Rattle.model.specs.Calls.{PowerOn, StepCall, ReadCall, Call, step, read, write, settle, sleep, reset}
 use Rattle.model.specs.Calls as model
 use Rattle.model.specs.Validity.{validCount, validFeatures}
-use Rattle.model.specs.Execution.{fresh, call, powerOn}
+use Rattle.model.specs.Execution.{fresh, refused, perform, numberOf, call, powerOn}
 use Rattle.model.specs.Layout.{machineSize, machineBytes, machineAt}
-use Rattle.model.specs.Lent.{powerOnLent, callLent}
+use Rattle.model.specs.Lent.{Lent, powerOnLent, callLent}
 use Rattle.model.specs.declared.Machine.{Machine}
-use Rattle.machine.specs.Form.{answerOf, outcomeOf}
+use Rattle.model.proofs.Bytes.{bytes-at}
+use Rattle.model.proofs.Frames.{by-number, read-kept}
+use Rattle.machine.specs.Form.{outcomeOf}
 use Rattle.machine.specs.declared.Answer.{Answer}
 use Rattle.machine.specs.declared.Answer.the-variants.{Done, Refused}
 use Rattle.machine.specs.declared.Outcome.{Outcome}
 use Rattle.lent.specs.Form.{Left, left, leftOf}
-use Rattle.keylocker.specs.Form.{Called, called, calledOf, answered, finished, readCalled, readCalledOf, readAnswered, stepCalled, stepCalledOf}
+use Rattle.keylocker.specs.Form.{Called, called, calledOf, answered, finished, readAnswered}
+use Rattle.keylocker.specs.Promises.{answer, gave, PowerOnPromise, StepPromise, ReadPromise}
+
+-- ---- what an answer can hold: a CPU record if the call is a step, a value if it is a read
+
+abbrev pub cpuOf : Call → List ℕ → List ℕ
+cpuOf (step s) cpu = cpu
+cpuOf (read r) cpu = []
+cpuOf (write w) cpu = []
+cpuOf (settle s) cpu = []
+cpuOf (sleep s) cpu = []
+cpuOf reset cpu = []
+
+abbrev pub valueOf : Call → ℕ → ℕ
+valueOf (step s) v = 0
+valueOf (read r) v = v
+valueOf (write w) v = 0
+valueOf (settle s) v = 0
+valueOf (sleep s) v = 0
+valueOf reset v = 0
+
+abbrev shown : Call → model.Answer → model.Answer
+shown c a = answer (a .number) (cpuOf c (a .cpu)) (valueOf c (a .value))
+
+performed-as : (m : Machine) (c : Call) → perform m c .answer ≡ shown c (perform m c .answer)
+unfolding perform
+performed-as m (step s) = refl
+performed-as m (read r) = refl
+performed-as m (write w) = refl
+performed-as m (settle s) = refl
+performed-as m (sleep s) = refl
+performed-as m reset = refl
+
+refused-as : (n : ℕ) (m : Machine) (c : Call) → refused n m c .answer ≡ shown c (refused n m c .answer)
+refused-as n m (step s) = refl
+refused-as n m (read r) = refl
+refused-as n m (write w) = refl
+refused-as n m (settle s) = refl
+refused-as n m (sleep s) = refl
+refused-as n m reset = refl
+
+pub answer-as : (block : List ℕ) (c : Call) → callLent block c .answer ≡ shown c (callLent block c .answer)
+unfolding callLent
+answer-as block c =
+    let m = machineAt block in
+    on-cond (λ (x : Lent). x .answer ≡ shown c (x .answer)) (eqb (length block) machineSize) _ _
+    (λ e. by-number m c (λ o. o .answer ≡ shown c (o .answer)) (λ f. performed-as m c) (λ f. refused-as _ m c)) (λ e. refused-as 1 m c)
+
+-- number and block, and CPU record and value where there are any, are all
+pub promised : (block after : List ℕ) (n : ℕ) (cpu : List ℕ) (v : ℕ) (c : Call) → called n after ≡ calledOf (callLent block c)
+    → cpu ≡ callLent block c .answer .cpu → v ≡ callLent block c .answer .value → gave after n (cpuOf c cpu) (valueOf c v) ≡ callLent block c
+promised block after n cpu v c e f g =
+    (λ j. gave (e j .block) (e j .number) (cpuOf c (f j)) (valueOf c (g j)))
+    ∙ (λ j. record { block = callLent block c .block; answer = sym (answer-as block c) j })
+
+-- ---- calls that are lent the block alone
 
 -- the number 0 is done, and any other refused
 finished-of : (block : List ℕ) (o : model.Outcome)
@@ -33,17 +91,25 @@ finished-of block o = go (eqb (o .answer .number) 0) refl
     go true e = λ j. called (sym (eqb-true (o .answer .number) 0 e) j) (machineBytes (o .machine))
     go false e = refl
 
--- a block of another length
-pub short-block : (block : List ℕ) (c : Call) → (length block ≡ machineSize → ⊥) → called 1 block ≡ calledOf (callLent block c)
-unfolding callLent
-short-block block c h = sym (ap calledOf (cond-off (ne-eqb (length block) machineSize h) _ _))
+module _ (block : List ℕ) (c : Call) where
+  short-called : (length block ≡ machineSize → ⊥) → called 1 block ≡ calledOf (callLent block c)
+  unfolding callLent
+  short-called h = sym (ap calledOf (cond-off (ne-eqb (length block) machineSize h) _ _))
 
-pub called-of : (block : List ℕ) (c : Call) (o : Outcome) → length block ≡ machineSize → o ≡ outcomeOf (call (machineAt block) c)
-    → finished block o ≡ calledOf (callLent block c)
-unfolding callLent
-called-of block c o h e =
-    ap (finished block) e ∙ finished-of block (call (machineAt block) c)
-    ∙ sym (ap calledOf (cond-on (eq-eqb (length block) machineSize h) _ _))
+  -- a block of another length
+  pub short-block : (length block ≡ machineSize → ⊥)
+      → gave block 1 (cpuOf c (callLent block c .answer .cpu)) (valueOf c (callLent block c .answer .value)) ≡ callLent block c
+  short-block h = promised block block 1 _ _ c (short-called h) refl refl
+
+  pub called-of : (after : List ℕ) (n : ℕ) (m : Machine) (o : Outcome) → length block ≡ machineSize → m ≡ machineAt block → o ≡ outcomeOf (call m c)
+      → called n after ≡ finished block o
+      → gave after n (cpuOf c (callLent block c .answer .cpu)) (valueOf c (callLent block c .answer .value)) ≡ callLent block c
+  unfolding callLent
+  called-of after n m o h r e f =
+      promised block after n _ _ c
+      (f ∙ ap (finished block) (e ∙ ap (λ (x : Machine). outcomeOf (call x c)) r) ∙ finished-of block (call (machineAt block) c)
+      ∙ sym (ap calledOf (cond-on (eq-eqb (length block) machineSize h) _ _)))
+      refl refl
 
 -- ---- power-on
 
@@ -60,63 +126,107 @@ module _ (block : List ℕ) (p : PowerOn) where
   power-on-given = ap (λ (t : Bool). called (cond (not t) 1 0) (cond (eqb (cond (not t) 1 0) 0) (machineBytes (fresh (p .count) (p .features))) block))
       (and-assoc (eqb (length block) machineSize) (validCount (p .count)) (validFeatures (p .features)))
 
-  pub power-on-short : (length block ≡ machineSize → ⊥) → called 1 block ≡ calledOf (powerOnLent block p)
-  unfolding given
-  power-on-short h = sym (power-on-given ∙ ap (λ (t : Bool). given t accepted) (ne-eqb (length block) machineSize h))
+  power-on-promised : (after : List ℕ) (n : ℕ) → called n after ≡ calledOf (powerOnLent block p) → PowerOnPromise block p after n
+  power-on-promised after n e = λ j. gave (e j .block) (e j .number) [] 0
 
-  pub power-on-called : (o : Outcome) → length block ≡ machineSize → o ≡ outcomeOf (powerOn p) → finished block o ≡ calledOf (powerOnLent block p)
+  pub power-on-short : (length block ≡ machineSize → ⊥) → PowerOnPromise block p block 1
   unfolding given
-  power-on-called o h e =
-      ap (finished block) e ∙ go accepted refl
-      ∙ sym (power-on-given ∙ ap (λ (t : Bool). given t accepted) (eq-eqb (length block) machineSize h))
+  power-on-short h =
+      power-on-promised block 1 (sym (power-on-given ∙ ap (λ (t : Bool). given t accepted) (ne-eqb (length block) machineSize h)))
+
+  pub power-on-called : (after : List ℕ) (n : ℕ) (o : Outcome) → length block ≡ machineSize → o ≡ outcomeOf (powerOn p) → called n after ≡ finished block o
+      → PowerOnPromise block p after n
+  unfolding given
+  power-on-called after n o h e f =
+      power-on-promised after n
+      (f ∙ ap (finished block) e ∙ by accepted
+      ∙ sym (power-on-given ∙ ap (λ (t : Bool). given t accepted) (eq-eqb (length block) machineSize h)))
     where
       power : Bool → model.Outcome
       power t =
-          cond (eqb (cond (not t) 1 0) 0) (record { machine = fresh (p .count) (p .features); answer = record { number = 0; cpu = []; buffer = []; value = 0 } })
-          (record { machine = fresh 0 0; answer = record { number = cond (not t) 1 0; cpu = []; buffer = []; value = 0 } })
+          cond (eqb (cond (not t) 1 0) 0) (record { machine = fresh (p .count) (p .features); answer = answer 0 [] 0 })
+          (record { machine = fresh 0 0; answer = answer (cond (not t) 1 0) [] 0 })
 
       by : (t : Bool) → finished block (outcomeOf (power t)) ≡ given true t
       by true = refl
       by false = refl
 
-      go : (t : Bool) → accepted ≡ t → finished block (outcomeOf (power accepted)) ≡ given true accepted
-      go t e = by accepted
-
 -- ---- a read
 
-read-answered : (old v n : ℕ) → readAnswered old v (answerOf n) ≡ readCalled n (cond (eqb n 0) v old)
-read-answered old v n = go (eqb n 0) refl
-  where
-    go : (t : Bool) → eqb n 0 ≡ t → readAnswered old v (cond t Done (Refused n)) ≡ readCalled n (cond t v old)
-    go true e = λ j. readCalled (sym (eqb-true n 0 e) j) v
-    go false e = refl
+module _ (block : List ℕ) (r : ReadCall) (old : ℕ) where
+  -- its machine goes back to the bytes that it came from
+  pub read-block : callLent block (read r) .block ≡ block
+  unfolding callLent
+  read-block =
+      let m = machineAt block in
+      on-cond (λ (x : Lent). x .block ≡ block) (eqb (length block) machineSize) _ _
+      (λ e.
+      on-cond (λ (l : List ℕ). l ≡ block) (eqb (call m (read r) .answer .number) 0) _ _
+      (λ f. ap machineBytes (read-kept m r) ∙ bytes-at block (eqb-true (length block) machineSize e)) (λ f. refl))
+      (λ e. refl)
 
-pub read-short : (block : List ℕ) (c : Call) (old : ℕ) → (length block ≡ machineSize → ⊥) → readCalled 1 old ≡ readCalledOf old (callLent block c)
-unfolding callLent
-read-short block c old h = sym (ap (readCalledOf old) (cond-off (ne-eqb (length block) machineSize h) _ _))
+  abbrev given-answer : model.Answer
+  given-answer = callLent block (read r) .answer
 
-pub read-called : (block : List ℕ) (c : Call) (old : ℕ) (o : Outcome) → length block ≡ machineSize → o ≡ outcomeOf (call (machineAt block) c)
-    → readAnswered old (o .value) (o .answer) ≡ readCalledOf old (callLent block c)
-unfolding callLent
-read-called block c old o h e =
-    ap (λ (x : Outcome). readAnswered old (x .value) (x .answer)) e
-    ∙ read-answered old (call (machineAt block) c .answer .value) (call (machineAt block) c .answer .number)
-    ∙ sym (ap (readCalledOf old) (cond-on (eq-eqb (length block) machineSize h) _ _))
+  -- where it is refused none was read
+  pub read-value : given-answer .value ≡ cond (eqb (given-answer .number) 0) (given-answer .value) 0
+  unfolding callLent perform
+  read-value =
+      let P : model.Answer → Type 0 = λ a. a .value ≡ cond (eqb (a .number) 0) (a .value) 0 in
+      on-cond (λ (x : Lent). P (x .answer)) (eqb (length block) machineSize) _ _
+      (λ e.
+      by-number (machineAt block) (read r) (λ o. P (o .answer)) (λ f. refl)
+      (λ f. on-cond (λ (v : ℕ). 0 ≡ v) (eqb (numberOf (machineAt block) (read r)) 0) 0 0 (λ g. refl) (λ g. refl)))
+      (λ e. refl)
+
+  pub read-promised : (n v : ℕ) → n ≡ given-answer .number → (n ≡ 0 → v ≡ given-answer .value) → ((n ≡ 0 → ⊥) → v ≡ old) → ReadPromise block r old v n
+  read-promised n v e f k =
+      record {
+        answered =
+            promised block block n (given-answer .cpu) (cond (eqb n 0) v 0) (read r) (λ j. called (e j) (sym read-block j)) refl
+            (on-cond (λ (x : ℕ). x ≡ given-answer .value) (eqb n 0) v 0 (λ t. f (eqb-true n 0 t))
+            (λ t. sym (read-value ∙ cond-off (ap (λ (x : ℕ). eqb x 0) (sym e) ∙ t) (given-answer .value) 0)));
+        kept = k;
+      }
+
+  pub read-short : (length block ≡ machineSize → ⊥) → ReadPromise block r old old 1
+  read-short h = read-promised 1 old (λ j. short-called block (read r) h j .number) (λ z. absurd (suc-ne-zero 0 z)) (λ n. refl)
+
+  pub read-called : (m : Machine) (o : Outcome) → length block ≡ machineSize → m ≡ machineAt block → o ≡ outcomeOf (call m (read r))
+      → ReadPromise block r old (readAnswered old (o .value) (o .answer) .value) (readAnswered old (o .value) (o .answer) .number)
+  unfolding callLent
+  read-called m o h w e =
+      subst (λ (x : Outcome). ReadPromise block r old (readAnswered old (x .value) (x .answer) .value) (readAnswered old (x .value) (x .answer) .number))
+      (sym (e ∙ ap (λ (x : Machine). outcomeOf (call x (read r))) w)) (go (eqb (a .number) 0) refl)
+    where
+      a : model.Answer
+      a = call (machineAt block) (read r) .answer
+
+      same : a ≡ given-answer
+      same = sym (ap (λ (x : Lent). x .answer) (cond-on (eq-eqb (length block) machineSize h) _ _))
+
+      go : (t : Bool) → eqb (a .number) 0 ≡ t
+          → ReadPromise block r old (readAnswered old (a .value) (cond t Done (Refused (a .number))) .value)
+          (readAnswered old (a .value) (cond t Done (Refused (a .number))) .number)
+      go true q = read-promised 0 (a .value) (sym (eqb-true (a .number) 0 q) ∙ (λ j. same j .number)) (λ z. λ j. same j .value) (λ n. absurd (n refl))
+      go false q = read-promised (a .number) old (λ j. same j .number) (λ z. absurd (eqb-false (a .number) 0 q z)) (λ n. refl)
 
 -- ---- a step
 
 module _ (block : List ℕ) (s : StepCall) where
-  pub step-short : (length block ≡ machineSize → ⊥) → stepCalled 1 block (s .cpu) ≡ stepCalledOf (callLent block (step s))
+  pub step-short : (length block ≡ machineSize → ⊥) → StepPromise block s block (s .cpu) 1
   unfolding callLent
-  step-short h = sym (ap stepCalledOf (cond-off (ne-eqb (length block) machineSize h) _ _))
+  step-short h =
+      promised block block 1 (s .cpu) _ (step s) (short-called block (step s) h)
+      (sym (ap (λ (x : Lent). x .answer .cpu) (cond-off (ne-eqb (length block) machineSize h) _ _))) refl
 
-  pub step-called : (a : Answer) (n : Machine) (cpu : List ℕ) (r : ℕ) (after : List ℕ) → length block ≡ machineSize
-      → left a n cpu ≡ leftOf (call (machineAt block) (step s)) → called r after ≡ answered block n a
-      → stepCalled r after cpu ≡ stepCalledOf (callLent block (step s))
+  pub step-called : (after cpu : List ℕ) (r : ℕ) (m n : Machine) (a : Answer) → length block ≡ machineSize → m ≡ machineAt block
+      → left a n cpu ≡ leftOf (call m (step s)) → called r after ≡ answered block n a → StepPromise block s after cpu r
   unfolding callLent
-  step-called a n cpu r after h e f =
+  step-called after cpu r m n a h w d f =
       let o = call (machineAt block) (step s) in
-      let g : called r after ≡ called (o .answer .number) (cond (eqb (o .answer .number) 0) (machineBytes (o .machine)) block) =
-      f ∙ ap (λ (x : Left). answered block (x .machine) (x .answer)) e ∙ finished-of block o in
-      (λ j. stepCalled (g j .number) (g j .block) (e j .cpu))
-      ∙ sym (ap stepCalledOf (cond-on (eq-eqb (length block) machineSize h) _ _))
+      let e = d ∙ ap (λ (x : Machine). leftOf (call x (step s))) w in
+      let here = eq-eqb (length block) machineSize h in
+      promised block after r cpu _ (step s)
+      (f ∙ ap (λ (x : Left). answered block (x .machine) (x .answer)) e ∙ finished-of block o ∙ sym (ap calledOf (cond-on here _ _)))
+      ((λ j. e j .cpu) ∙ sym (ap (λ (x : Lent). x .answer .cpu) (cond-on here _ _))) refl

@@ -1,9 +1,7 @@
 -- What a C call gives: its number, and what it leaves in the lent bytes.
 -- Assumes nothing.
-use mathlib.Core.Bool.{cond}
 use mathlib.Core.List.{List}
 use Prim.Native.Nat.{ℕ}
-use lib.Dec.{eqb}
 use Rattle.model.specs.Lent.{Lent}
 use Rattle.model.specs.Layout.{machineBytes}
 use Rattle.model.specs.declared.Machine.{Machine}
@@ -31,31 +29,12 @@ answered block m (Refused n) = called n block
 abbrev pub finished : List ℕ → Outcome → Called
 finished block o = answered block (o .machine) (o .answer)
 
--- ---- a read: the value is written where the call is not refused, and the machine never
+-- ---- a read: the value is written where the call is not refused
 
 pub record ReadCalled : Type 0 where
   pub number : ℕ
   pub value : ℕ
 
-abbrev pub readCalled : ℕ → ℕ → ReadCalled
-readCalled n v = record { number = n; value = v }
-
-abbrev pub readCalledOf : ℕ → Lent → ReadCalled
-readCalledOf old l = readCalled (l .answer .number) (cond (eqb (l .answer .number) 0) (l .answer .value) old)
-
 abbrev pub readAnswered : ℕ → ℕ → Answer → ReadCalled
-readAnswered old v Done = readCalled 0 v
-readAnswered old v (Refused n) = readCalled n old
-
--- ---- a step: the CPU record is lent too
-
-pub record StepCalled : Type 0 where
-  pub number : ℕ
-  pub block : List ℕ
-  pub cpu : List ℕ
-
-abbrev pub stepCalled : ℕ → List ℕ → List ℕ → StepCalled
-stepCalled n b c = record { number = n; block = b; cpu = c }
-
-abbrev pub stepCalledOf : Lent → StepCalled
-stepCalledOf l = stepCalled (l .answer .number) (l .block) (l .answer .cpu)
+readAnswered old v Done = record { number = 0; value = v }
+readAnswered old v (Refused n) = record { number = n; value = old }

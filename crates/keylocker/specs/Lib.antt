@@ -1,1 +1,3 @@
 pub mod Form
+pub mod Promises
+pub mod Executions

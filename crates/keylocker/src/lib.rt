@@ -1,10 +1,9 @@
 // The calls for C: the machine is lent as 924 bytes. Each answers 0, or the number of the refusal, which leaves every lent byte.
 ghost use mathlib.Core.Path.{_≡_};
 ghost use lib.ListN.{length};
-ghost use Rattle.model.specs.Calls.{step, read, write, settle, sleep, reset};
 ghost use Rattle.model.specs.Layout.{machineSize};
-ghost use Rattle.model.specs.Lent.{powerOnLent, callLent};
-ghost use Rattle.keylocker.specs.Form.{called, calledOf, finished, readCalled, readCalledOf, stepCalled, stepCalledOf};
+ghost use Rattle.keylocker.specs.Form.{called, finished};
+ghost use Rattle.keylocker.specs.Promises.{PowerOnPromise, StepPromise, ReadPromise, WritePromise, SettlePromise, SleepPromise, ResetPromise};
 use layout::read_machine;
 use layout::write_machine;
 use lent::step_through;
@@ -30,7 +29,7 @@ fn finish(block: &mut [u8], o: Outcome) -> u32
 
 #[no_mangle]
 pub extern "C" fn keylocker_power_on(machine: &mut [u8], count: u8, features: u8) -> u32
-    ensures { λ r. ⌜ called r (now (machine .exit)) ≡ calledOf (powerOnLent (now (machine .entry)) (record { count = count; features = features })) ⌝ }
+    ensures { λ r. ⌜ PowerOnPromise (now (machine .entry)) (record { count = count; features = features }) (now (machine .exit)) r ⌝ }
 {
     if machine.len() != MACHINE_SIZE {
         return 1;
@@ -40,7 +39,7 @@ pub extern "C" fn keylocker_power_on(machine: &mut [u8], count: u8, features: u8
 
 #[no_mangle]
 pub extern "C" fn keylocker_settle(machine: &mut [u8], code: u8) -> u32
-    ensures { λ r. ⌜ called r (now (machine .exit)) ≡ calledOf (callLent (now (machine .entry)) (settle (record { code = code }))) ⌝ }
+    ensures { λ r. ⌜ SettlePromise (now (machine .entry)) (record { code = code }) (now (machine .exit)) r ⌝ }
 {
     if machine.len() != MACHINE_SIZE {
         return 1;
@@ -51,7 +50,7 @@ pub extern "C" fn keylocker_settle(machine: &mut [u8], code: u8) -> u32
 
 #[no_mangle]
 pub extern "C" fn keylocker_sleep(machine: &mut [u8], code: u8) -> u32
-    ensures { λ r. ⌜ called r (now (machine .exit)) ≡ calledOf (callLent (now (machine .entry)) (sleep (record { code = code }))) ⌝ }
+    ensures { λ r. ⌜ SleepPromise (now (machine .entry)) (record { code = code }) (now (machine .exit)) r ⌝ }
 {
     if machine.len() != MACHINE_SIZE {
         return 1;
@@ -62,7 +61,7 @@ pub extern "C" fn keylocker_sleep(machine: &mut [u8], code: u8) -> u32
 
 #[no_mangle]
 pub extern "C" fn keylocker_reset(machine: &mut [u8]) -> u32
-    ensures { λ r. ⌜ called r (now (machine .exit)) ≡ calledOf (callLent (now (machine .entry)) reset) ⌝ }
+    ensures { λ r. ⌜ ResetPromise (now (machine .entry)) (now (machine .exit)) r ⌝ }
 {
     if machine.len() != MACHINE_SIZE {
         return 1;
@@ -82,7 +81,7 @@ pub extern "C" fn keylocker_read(
     address: u32,
     value: &mut u64,
 ) -> u32
-    ensures { λ r. ⌜ readCalled r (now (value .exit)) ≡ readCalledOf (now (value .entry)) (callLent (now (machine .entry)) (read (record { processor = processor; cpl = cpl; address = address }))) ⌝ }
+    ensures { λ r. ⌜ ReadPromise (now (machine .entry)) (record { processor = processor; cpl = cpl; address = address }) (now (value .entry)) (now (value .exit)) r ⌝ }
 {
     if machine.len() != MACHINE_SIZE {
         return 1;
@@ -107,7 +106,7 @@ pub extern "C" fn keylocker_write(
     address: u32,
     value: u64,
 ) -> u32
-    ensures { λ r. ⌜ called r (now (machine .exit)) ≡ calledOf (callLent (now (machine .entry)) (write (record { processor = processor; cpl = cpl; address = address; value = value }))) ⌝ }
+    ensures { λ r. ⌜ WritePromise (now (machine .entry)) (record { processor = processor; cpl = cpl; address = address; value = value }) (now (machine .exit)) r ⌝ }
 {
     if machine.len() != MACHINE_SIZE {
         return 1;
@@ -127,7 +126,7 @@ pub extern "C" fn keylocker_step(
     random: &[u8],
     string: &[u8],
 ) -> u32
-    ensures { λ r. ⌜ stepCalled r (now (machine .exit)) (now (cpu .exit)) ≡ stepCalledOf (callLent (now (machine .entry)) (step (record { processor = processor; cpu = now (cpu .entry); memory = now (memory .entry); random = now (random .entry); string = now (string .entry) }))) ⌝ }
+    ensures { λ r. ⌜ StepPromise (now (machine .entry)) (record { processor = processor; cpu = now (cpu .entry); memory = now (memory .entry); random = now (random .entry); string = now (string .entry) }) (now (machine .exit)) (now (cpu .exit)) r ⌝ }
 {
     if machine.len() != MACHINE_SIZE {
         return 1;

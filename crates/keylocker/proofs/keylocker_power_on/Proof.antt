@@ -1,4 +1,3 @@
-use mathlib.Core.Path.{_∙_}
 use Rattle.keylocker.proofs.Finishing.{power-on-short, power-on-called}
 use borrow.Author.Needs.{needs}
 use Rattle.keylocker.proofs.keylocker_power_on.Statement.{statement}
@@ -21,8 +20,8 @@ same-length c = search needs
 returns-2 : tie.Need-returns-2
 returns-2 c =
     let a = c .before .before .before .before .before .before .before .args in
-    c .before .before .finish .ensures
-    ∙ power-on-called (a .machine .now) (record { count = a .count; features = a .features }) (c .before .before .before .power-on .result) (search needs) (c .before .before .before .power-on .ensures)
+    power-on-called (a .machine .now) (record { count = a .count; features = a .features }) _ _ (c .before .before .before .power-on .result) (search needs)
+    (c .before .before .before .power-on .ensures) (c .before .before .finish .ensures)
 
 pub keylocker-power-on-spec : {M : Type 1} → statement M
 keylocker-power-on-spec =

@@ -1,9 +1,4 @@
-use mathlib.Core.Path.{_∙_, ap}
 use Rattle.model.specs.Calls.{StepCall}
-use Rattle.model.specs.Calls as model
-use Rattle.model.specs.Execution.{call}
-use Rattle.model.specs.declared.Machine.{Machine}
-use Rattle.lent.specs.Form.{leftOf}
 use Rattle.keylocker.proofs.Finishing.{step-short, step-called}
 use borrow.Author.Needs.{needs}
 use Rattle.keylocker.proofs.keylocker_step.Statement.{statement}
@@ -35,8 +30,9 @@ returns-2 c =
     let a = c .before .before .before .before .before .before .before .before .before .before .before .before .before .before .before .before .before .args in
     let s : StepCall = record { processor = a .processor; cpu = a .cpu .now; memory = a .memory .now; random = a .random .now; string = a .string .now } in
     let t = c .before .before .before .before .before .before .before .step-through .result in
-    step-called (a .machine .now) s (t .answer) (t .machine) _ _ _ (search needs)
-    (c .before .before .before .before .before .before .before .step-through .ensures ∙ ap (λ (m : Machine). leftOf (call m (model.step s))) (c .before .before .before .before .before .before .before .before .before .read-machine .ensures)) (c .before .before .finish .ensures)
+    step-called (a .machine .now) s _ _ _ _ (t .machine) (t .answer) (search needs)
+    (c .before .before .before .before .before .before .before .before .before .read-machine .ensures)
+    (c .before .before .before .before .before .before .before .step-through .ensures) (c .before .before .finish .ensures)
 
 pub keylocker-step-spec : {M : Type 1} → statement M
 keylocker-step-spec =

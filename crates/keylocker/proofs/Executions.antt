@@ -1,0 +1,156 @@
+-- Demand 3 of the exported calls: every execution satisfies it, and every list of calls from an accepted power-on has one execution and no other.
+-- Assumes nothing.
+use mathlib.Core.Path.{_≡_, _∙_, refl, sym, ap, subst}
+use mathlib.Core.Bool.{Bool, true, false, cond, not, _&&_}
+use mathlib.Core.List.{List, [], _∷_}
+use Prim.Native.Nat.{ℕ}
+use lib.Dec.{eqb}
+use lib.ListN.{length}
+use borrow.Author.Tests.{eqb-true, eq-eqb}
+use Rattle.bits.proofs.Choice.{cond-on, on-cond}
+use Rattle.model.specs.Calls.{PowerOn, ReadCall, Call, step, read, write, settle, sleep, reset, Answer, Outcome}
+use Rattle.model.specs.Validity.{validCount, validFeatures}
+use Rattle.model.specs.Refusals.{test, first}
+use Rattle.model.specs.Execution.{powerOnRefusal, powerOn, Run}
+use Rattle.model.specs.Demand3.{Demand3}
+use Rattle.model.specs.Layout.{machineSize, machineBytes, machineAt}
+use Rattle.model.specs.Lent.{Lent, powerOnLent, callLent, runLent}
+use Rattle.model.proofs.Lent.{power-on-lent, demand-3-lent}
+use Rattle.keylocker.specs.Promises.{answer, gave, ReadPromise}
+use Rattle.keylocker.specs.Executions.{Chain, ended, stepped, didRead, wrote, settled, slept, wasReset, Execution}
+use Rattle.keylocker.proofs.Finishing.{cpuOf, valueOf, answer-as, promised, read-block, read-value, read-promised}
+
+-- ---- what is promised is what the model's calls give, one after another
+
+-- the block after a list of calls
+abbrev blockAfter : List ℕ → List Call → List ℕ
+blockAfter block [] = block
+blockAfter block (c ∷ l) = blockAfter (callLent block c .block) l
+
+record Ran (block : List ℕ) (calls : List Call) (answers : List Answer) (last : List ℕ) : Type 0 where
+  run : runLent block calls ≡ record { answers = answers; machine = machineAt last }
+  left : blockAfter block calls ≡ last
+
+ran-more : {before after last : List ℕ} {calls : List Call} {answers : List Answer} (c : Call) (a : Answer)
+    → record { block = after; answer = a } ≡ callLent before c → Ran after calls answers last → Ran before (c ∷ calls) (a ∷ answers) last
+ran-more {calls = calls} c a e r =
+    record {
+      run =
+          ap (λ (x : Lent). record { answers = x .answer ∷ runLent (x .block) calls .answers; machine = runLent (x .block) calls .machine }) (sym e)
+          ∙ ap (λ (x : Run). record { answers = a ∷ x .answers; machine = x .machine }) (r .run);
+      left = ap (λ (x : Lent). blockAfter (x .block) calls) (sym e) ∙ r .left;
+    }
+
+chain-ran : {block last : List ℕ} {calls : List Call} {answers : List Answer} → Chain block calls answers last → Ran block calls answers last
+chain-ran ended = record { run = refl; left = refl }
+chain-ran (stepped s cpu n e l) = ran-more (step s) (answer n cpu 0) e (chain-ran l)
+chain-ran (didRead r old v n e l) = ran-more (read r) (answer n [] (cond (eqb n 0) v 0)) (e .answered) (chain-ran l)
+chain-ran (wrote w n e l) = ran-more (write w) (answer n [] 0) e (chain-ran l)
+chain-ran (settled s n e l) = ran-more (settle s) (answer n [] 0) e (chain-ran l)
+chain-ran (slept s n e l) = ran-more (sleep s) (answer n [] 0) e (chain-ran l)
+chain-ran (wasReset n e l) = ran-more reset (answer n [] 0) e (chain-ran l)
+
+module _ (p : PowerOn) (calls : List Call) (r : Run) (x : Execution p calls r) where
+  powered : powerOnLent (x .lent) p .answer .number ≡ 0
+  powered = λ j. sym (x .on) j .answer .number
+
+  -- what the block held before power-on does not matter
+  first-block : x .first ≡ machineBytes (powerOn p .machine)
+  first-block = (λ j. x .on j .block) ∙ power-on-lent (x .lent) p powered .1
+
+  -- the answers and the machine at the end
+  execution-run : runLent (machineBytes (powerOn p .machine)) calls ≡ r
+  execution-run =
+      ap (λ (b : List ℕ). runLent b calls) (sym first-block) ∙ chain-ran (x .chain) .run ∙ (λ j. record { answers = r .answers; machine = x .machine j })
+
+  execution-block : blockAfter (machineBytes (powerOn p .machine)) calls ≡ x .last
+  execution-block = ap (λ (b : List ℕ). blockAfter b calls) (sym first-block) ∙ chain-ran (x .chain) .left
+
+  -- ---- demand 3
+
+  pub demand-3-c : Demand3 p calls r
+  demand-3-c =
+      subst (Demand3 p calls)
+      (ap (λ (b : List ℕ). runLent b calls) (power-on-lent (x .lent) p powered .1) ∙ execution-run) (demand-3-lent (x .lent) p powered calls)
+
+-- ---- one execution, and no other
+
+pub execution-only : (p : PowerOn) (calls : List Call) (r s : Run) (x : Execution p calls r) (y : Execution p calls s) → (r ≡ s) × (x .last ≡ y .last)
+execution-only p calls r s x y =
+    (sym (execution-run p calls r x) ∙ execution-run p calls s y, sym (execution-block p calls r x) ∙ execution-block p calls s y)
+
+-- a read, whatever the value was before
+module _ (block : List ℕ) (r : ReadCall) (old : ℕ) where
+  abbrev given : Answer
+  given = callLent block (read r) .answer
+
+  abbrev found : ℕ
+  found = cond (eqb (given .number) 0) (given .value) old
+
+  read-found : ReadPromise block r old found (given .number)
+  read-found =
+      read-promised block r old (given .number) found refl (λ e. cond-on (eq-eqb (given .number) 0 e) (given .value) old)
+      (λ n. on-cond (λ (v : ℕ). v ≡ old) (eqb (given .number) 0) (given .value) old (λ t. absurd (n (eqb-true (given .number) 0 t))) (λ t. refl))
+
+  read-answer : answer (given .number) [] (cond (eqb (given .number) 0) found 0) ≡ given
+  read-answer =
+      ap (answer (given .number) []) (go (eqb (given .number) 0) ∙ sym (read-value block r old)) ∙ sym (answer-as block (read r))
+    where
+      go : (t : Bool) → cond t (cond t (given .value) old) 0 ≡ cond t (given .value) 0
+      go true = refl
+      go false = refl
+
+module _ (block : List ℕ) (old : ℕ) (l : List Call) where
+  -- the calls l after c, and c before them with an answer
+  abbrev After : Call → List ℕ → Type 0
+  After c b = Chain b l (runLent (callLent block c .block) l .answers) (blockAfter (callLent block c .block) l)
+
+  abbrev With : Call → Answer → Type 0
+  With c a = Chain block (c ∷ l) (a ∷ runLent (callLent block c .block) l .answers) (blockAfter (callLent block c .block) l)
+
+  whole : (c : Call)
+      → gave (callLent block c .block) (callLent block c .answer .number) (cpuOf c (callLent block c .answer .cpu)) (valueOf c (callLent block c .answer .value))
+      ≡ callLent block c
+  whole c = promised block _ _ _ _ c refl refl refl
+
+  chain-more : (c : Call) → After c (callLent block c .block) → With c (callLent block c .answer)
+  chain-more (step s) x = subst (With (step s)) (sym (answer-as block (step s))) (stepped s _ _ (whole (step s)) x)
+  chain-more (read r) x =
+      subst (With (read r)) (read-answer block r old)
+      (didRead r old (found block r old) _ (read-found block r old) (subst (After (read r)) (read-block block r old) x))
+  chain-more (write w) x = subst (With (write w)) (sym (answer-as block (write w))) (wrote w _ (whole (write w)) x)
+  chain-more (settle s) x = subst (With (settle s)) (sym (answer-as block (settle s))) (settled s _ (whole (settle s)) x)
+  chain-more (sleep s) x = subst (With (sleep s)) (sym (answer-as block (sleep s))) (slept s _ (whole (sleep s)) x)
+  chain-more reset x = subst (With reset) (sym (answer-as block reset)) (wasReset _ (whole reset) x)
+
+chain-of : (block : List ℕ) (old : ℕ) (calls : List Call) → Chain block calls (runLent block calls .answers) (blockAfter block calls)
+chain-of block old [] = ended
+chain-of block old (c ∷ l) = chain-more block old l c (chain-of (callLent block c .block) old l)
+
+-- what runs on lent bytes ends with the machine that is in them then
+run-block : (block : List ℕ) (calls : List Call) → machineAt (blockAfter block calls) ≡ runLent block calls .machine
+run-block block [] = refl
+run-block block (c ∷ l) = run-block (callLent block c .block) l
+
+module _ (block : List ℕ) (p : PowerOn) (size : length block ≡ machineSize) (ok : powerOn p .answer .number ≡ 0) where
+  refusal-told : powerOn p .answer .number ≡ powerOnRefusal p
+  refusal-told =
+      on-cond (λ (o : Outcome). o .answer .number ≡ powerOnRefusal p) (eqb (powerOnRefusal p) 0) _ _ (λ e. sym (eqb-true (powerOnRefusal p) 0 e)) (λ e. refl)
+
+  powers : powerOnLent block p .answer .number ≡ 0
+  powers =
+      ap (λ (t : Bool). first (test 1 (not (t && validCount (p .count) && validFeatures (p .features))) ∷ []))
+      (eq-eqb (length block) machineSize size)
+      ∙ sym refusal-told ∙ ok
+
+  -- the value that a read finds before it is any
+  pub execution-exists : (calls : List Call) (old : ℕ) → Execution p calls (runLent (powerOnLent block p .block) calls)
+  execution-exists calls old =
+      record {
+        lent = block;
+        first = powerOnLent block p .block;
+        last = blockAfter (powerOnLent block p .block) calls;
+        on = λ j. gave (powerOnLent block p .block) (sym powers j) [] 0;
+        chain = chain-of (powerOnLent block p .block) old calls;
+        machine = run-block (powerOnLent block p .block) calls;
+      }

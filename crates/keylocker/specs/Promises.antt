@@ -1,0 +1,48 @@
+-- What each exported call promises its C caller: over the bytes and the value lent, at entry and at exit, and the number that it returns. A contract in
+-- src/lib.rt is one of these, of its own parameters.
+-- Assumes nothing.
+use mathlib.Core.Path.{_≡_}
+use mathlib.Core.Bool.{cond}
+use mathlib.Core.List.{List, []}
+use Prim.Native.Nat.{ℕ}
+use lib.Dec.{eqb}
+use Rattle.model.specs.Calls.{PowerOn, StepCall, ReadCall, WriteCall, SettleCall, SleepCall, step, read, write, settle, sleep, reset, Answer}
+use Rattle.model.specs.Lent.{Lent, powerOnLent, callLent}
+
+-- what a caller sees of an answer: the number returned, the CPU record at exit, the value read. No call is lent a buffer.
+abbrev pub answer : ℕ → List ℕ → ℕ → Answer
+answer number cpu value = record { number = number; cpu = cpu; buffer = []; value = value }
+
+-- and of a call: the block at exit, too
+abbrev pub gave : List ℕ → ℕ → List ℕ → ℕ → Lent
+gave block number cpu value = record { block = block; answer = answer number cpu value }
+
+-- keylocker_power_on
+abbrev pub PowerOnPromise : List ℕ → PowerOn → List ℕ → ℕ → Type 0
+PowerOnPromise before p after number = gave after number [] 0 ≡ powerOnLent before p
+
+-- keylocker_step: the CPU record at entry is among the arguments
+abbrev pub StepPromise : List ℕ → StepCall → List ℕ → List ℕ → ℕ → Type 0
+StepPromise before s after cpu number = gave after number cpu 0 ≡ callLent before (step s)
+
+-- keylocker_read: the block is lent shared, so it is the same at exit. Answered 0, the value at exit is the one read; else it is the old one, and none was
+-- read.
+pub record ReadPromise (block : List ℕ) (r : ReadCall) (old value number : ℕ) : Type 0 where
+  pub answered : gave block number [] (cond (eqb number 0) value 0) ≡ callLent block (read r)
+  pub kept : (number ≡ 0 → ⊥) → value ≡ old
+
+-- keylocker_write
+abbrev pub WritePromise : List ℕ → WriteCall → List ℕ → ℕ → Type 0
+WritePromise before w after number = gave after number [] 0 ≡ callLent before (write w)
+
+-- keylocker_settle
+abbrev pub SettlePromise : List ℕ → SettleCall → List ℕ → ℕ → Type 0
+SettlePromise before s after number = gave after number [] 0 ≡ callLent before (settle s)
+
+-- keylocker_sleep
+abbrev pub SleepPromise : List ℕ → SleepCall → List ℕ → ℕ → Type 0
+SleepPromise before s after number = gave after number [] 0 ≡ callLent before (sleep s)
+
+-- keylocker_reset
+abbrev pub ResetPromise : List ℕ → List ℕ → ℕ → Type 0
+ResetPromise before after number = gave after number [] 0 ≡ callLent before reset
