@@ -1,6 +1,5 @@
 // Calls of the emulated machine through the proved code, by value: each line of standard input is a call, and is answered by one line.
 mod call;
-mod line;
 mod print;
 
 use libc::STDIN_FILENO;
