@@ -509,6 +509,7 @@ def operands(s):
         ("base-rbp-sib-disp32", "f3 0f 38 dc 84 4d fc ff ff ff", dict(rbp=24, rcx=10)),
         ("base-rsp", "f3 0f 38 dc 44 24 08", dict(rsp=32)),
         ("rip-negative", "f3 0f 38 dc 05 d8 ff ff ff", dict(rip=71)),
+        ("rip-2-31", "f3 0f 38 dc 05 1f 00 00 80", dict(rip=2**31)),
         ("rip-rex-b", "f3 41 0f 38 dc 05 d8 ff ff ff", dict(rip=70, r13=1)),
         ("over-2-64", "f3 0f 38 dc 40 30", dict(rax=2**64 - 8)),
         ("rex-w", "f3 48 0f 38 dc 00", dict(rax=40)),
