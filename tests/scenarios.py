@@ -551,7 +551,7 @@ def backup_statuses(s):
         ("settle-bad", lambda name: s.settle(name, BAD), 12),
         ("reset", lambda name: s.reset(name), 0),
     ]:
-        expect(name, call(f"backup-status-{name}"), 0)
+        expect(f"backup-status-{name}", call(f"backup-status-{name}"), 0)
         backup_status(s, f"backup-status-after-{name}", wanted)
 
 
@@ -565,7 +565,7 @@ def copy_statuses(s):
         ("copy-out-pending", lambda name: s.write(name, 0, COPY_OUT), [0, 1]),
         ("sleep", lambda name: s.sleep(name, NEW), [0, 0]),
     ]:
-        expect(name, call(f"copy-status-{name}"), 0)
+        expect(f"copy-status-{name}", call(f"copy-status-{name}"), 0)
         for processor in [0, 1]:
             status(s, f"copy-status-after-{name}-{processor}", processor, wanted[processor])
 
@@ -587,8 +587,8 @@ def flags(s):
         ("wide-closed", WIDE_DEC_128, {}, 0, bytes(48), 0xFFFF_FFFF_FFFF_F76A),
     ]:
         cpu = record(xmm, rax=eax, rflags=2**64 - 1)
-        expect(name, s.step(f"flags-{name}", string, cpu=cpu, memory=memory), 0)
-        expect(name, s.cpu.rflags, wanted)
+        expect(f"flags-{name}", s.step(f"flags-{name}", string, cpu=cpu, memory=memory), 0)
+        expect(f"flags-{name}", s.cpu.rflags, wanted)
 
 
 def rip(s):
@@ -597,8 +597,8 @@ def rip(s):
         ("2-64", LOAD, 0xFFFF_FFFF_FFFF_FFFF, 4),
         ("not-canonical", ENCODE_256, 0x8000_0000_0000_0000, 0x8000_0000_0000_0005),
     ]:
-        expect(name, s.step(f"rip-{name}", string, cpu=record(rip=before)), 0)
-        expect(name, s.cpu.rip, after)
+        expect(f"rip-{name}", s.step(f"rip-{name}", string, cpu=record(rip=before)), 0)
+        expect(f"rip-{name}", s.cpu.rip, after)
 
 
 def encode_registers(s):
@@ -645,8 +645,8 @@ def whole_record(s):
         ("settle-bad", lambda name: s.settle(name, BAD), [0, 0, 1, 1]),
         ("wake-junk", lambda name: s.sleep(name, JUNK), [0, 0, 1, 0]),
     ]:
-        expect(name, call(f"record-{name}"), 0)
-        expect(name, list(s.machine[920:]), bits)
+        expect(f"record-{name}", call(f"record-{name}"), 0)
+        expect(f"record-{name}", list(s.machine[920:]), bits)
 
 
 def values(s):
