@@ -727,8 +727,11 @@ def feature_refusals(s):
         ("backup", model.BACKUP, (0, 0, 0, 0, 12)),
     ]:
         s.power_on(f"no-{name}-power-on", count=1, features=model.ALL_FEATURES & ~bit)
+        used = use(s, f"no-{name}-use", ENC_128, h)
+        if numbers[0] == 0:
+            expect_opened(s, f"no-{name}", key_locker.cipher(KEY_128, PLAIN))
         found = (
-            use(s, f"no-{name}-use", ENC_128, h),
+            used,
             use(s, f"no-{name}-wide", WIDE_ENC_128, h),
             encode(s, f"no-{name}-encode", KEY_128),
             load(s, f"no-{name}-load", A),
