@@ -26,7 +26,7 @@ STDOUT = ROOT / "crates/scenarios/stdout"
 PROGRAM = ROOT / "target/bin/scenarios"
 
 # How many characters the program reads.
-STDIN_LIMIT = 65_536
+STDIN_LIMIT = 131_072
 
 # ---- the calls as lines, as crates/scenarios/src/call.rt has them
 
@@ -493,26 +493,36 @@ def operands(s):
     load(s, "operands-load", A)
     for name, string, registers in [
         ("disp8-negative", "f3 0f 38 dc 40 f8", dict(rax=48)),
+        ("disp32", "f3 0f 38 dc 80 08 00 00 00", dict(rax=32)),
         ("disp32-negative", "f3 0f 38 dc 80 00 ff ff ff", dict(rax=0x128)),
         ("index-scaled", "f3 0f 38 dc 04 c8", dict(rax=16, rcx=3)),
         ("index-none", "f3 0f 38 dc 04 60", dict(rax=40, rsp=1)),
         ("index-r12", "f3 42 0f 38 dc 04 20", dict(r12=40)),
+        ("index-r12-scaled", "f3 42 0f 38 dc 04 e0", dict(rax=8, r12=4)),
         ("index-alone", "f3 0f 38 dc 04 4d 20 00 00 00", dict(rcx=4, rbp=1)),
         ("base-none", "f3 0f 38 dc 04 25 28 00 00 00", dict(rsp=1, rbp=1)),
         ("base-none-rex-b", "f3 41 0f 38 dc 04 25 28 00 00 00", dict(r12=1, r13=1)),
         ("base-r12", "f3 41 0f 38 dc 04 24", dict(r12=40)),
         ("base-r13", "f3 41 0f 38 dc 45 00", dict(r13=40)),
         ("base-rbp", "f3 0f 38 dc 45 00", dict(rbp=40)),
+        ("base-rbp-sib-disp8", "f3 0f 38 dc 44 4d fc", dict(rbp=24, rcx=10)),
+        ("base-rbp-sib-disp32", "f3 0f 38 dc 84 4d fc ff ff ff", dict(rbp=24, rcx=10)),
         ("base-rsp", "f3 0f 38 dc 44 24 08", dict(rsp=32)),
         ("rip-negative", "f3 0f 38 dc 05 d8 ff ff ff", dict(rip=71)),
+        ("rip-2-31", "f3 0f 38 dc 05 1f 00 00 80", dict(rip=2**31)),
         ("rip-rex-b", "f3 41 0f 38 dc 05 d8 ff ff ff", dict(rip=70, r13=1)),
         ("over-2-64", "f3 0f 38 dc 40 30", dict(rax=2**64 - 8)),
         ("rex-w", "f3 48 0f 38 dc 00", dict(rax=40)),
+        ("rex-w-sib", "f3 48 0f 38 dc 04 c8", dict(rax=16, rcx=3)),
         ("rip-wraps", "f3 0f 38 dc 00 f3 0f", dict(rax=40, rip=2**64 - 1)),
         ("wide-rex-r", "f3 44 0f 38 d8 00", dict(rax=40)),
     ]:
         expect(name, s.step(f"operands-{name}", string, cpu=record({0: PLAIN}, **registers), memory=memory), 0)
         expect_opened(s, name, key_locker.cipher(KEY_128, PLAIN))
+    blocks = {n: block(0x40 + n) for n in range(9)}
+    expect("wide-dec-128", s.step("operands-wide-dec-128", "f3 0f 38 d8 08", cpu=record(blocks, rax=40), memory=memory), 0)
+    wanted = {n: key_locker.inv_cipher(KEY_128, blocks[n]) for n in range(8)} | {8: blocks[8]}
+    expect("wide-dec-128", {n: s.cpu.xmm(n) for n in range(9)}, wanted)
     expect("xmm15", s.step("operands-xmm15", "f3 44 0f 38 dc 38", cpu=record({15: PLAIN}, rax=40), memory=memory), 0)
     expect("xmm15", s.cpu.xmm(15), key_locker.cipher(KEY_128, PLAIN))
     xmm = {0: B.integrity, 9: B.encryption[:16], 10: B.encryption[16:]}
@@ -520,6 +530,132 @@ def operands(s):
     expect("load-xmm10-xmm9", model.machine_from(s.machine).keys[1], B)
     s.step("operands-encode-r9d-r8d", "f3 45 0f 38 fa c8", 1, cpu=record({0: KEY_128}, r8=6, r9=2**64 - 1))
     expect("encode-r9d-r8d", (bytes(s.cpu.bytes[:48]), s.cpu.register(9)), (handle(B, KEY_128, 6), 0))
+
+
+# ---- values: what registers, flags and records hold after a call, as the scope has it
+
+
+def backup_statuses(s):
+    """0x991: valid 1, error 4, consumed 8."""
+    s.power_on("backup-status-power-on", count=2)
+    backup_status(s, "backup-status-power-on", 0)
+    for name, call, wanted in [
+        ("copy-out", lambda name: s.write(name, 0, COPY_OUT), 0),
+        ("settle-good", lambda name: s.settle(name, GOOD), 9),
+        ("copy-out-again", lambda name: s.write(name, 0, COPY_OUT), 0),
+        ("wake-old", lambda name: s.sleep(name, OLD), 1),
+        ("copy-out-third", lambda name: s.write(name, 0, COPY_OUT), 0),
+        ("wake-new", lambda name: s.sleep(name, NEW), 1),
+        ("wake-junk", lambda name: s.sleep(name, JUNK), 4),
+        ("copy-out-fourth", lambda name: s.write(name, 0, COPY_OUT), 0),
+        ("settle-bad", lambda name: s.settle(name, BAD), 12),
+        ("reset", lambda name: s.reset(name), 0),
+    ]:
+        expect(f"backup-status-{name}", call(f"backup-status-{name}"), 0)
+        backup_status(s, f"backup-status-after-{name}", wanted)
+
+
+def copy_statuses(s):
+    """0x990 of processors 0 and 1."""
+    s.power_on("copy-status-power-on", count=2)
+    for name, call, wanted in [
+        ("copy-in-none", lambda name: s.write(name, 0, COPY_IN), [0, 0]),
+        ("copy-out", lambda name: s.write(name, 0, COPY_OUT), [1, 0]),
+        ("copy-in", lambda name: s.write(name, 1, COPY_IN), [1, 1]),
+        ("copy-out-pending", lambda name: s.write(name, 0, COPY_OUT), [0, 1]),
+        ("sleep", lambda name: s.sleep(name, NEW), [0, 0]),
+    ]:
+        expect(f"copy-status-{name}", call(f"copy-status-{name}"), 0)
+        for processor in [0, 1]:
+            status(s, f"copy-status-after-{name}-{processor}", processor, wanted[processor])
+
+
+def flags(s):
+    """All 64 bits of RFLAGS set before: the six flags are written, the others kept."""
+    s.power_on("flags-power-on", count=1)
+    iwkey = {0: A.integrity, 1: A.encryption[:16], 2: A.encryption[16:]}
+    h = handle(A, KEY_128)
+    for name, string, xmm, eax, memory, wanted in [
+        ("load", LOAD, iwkey, 0, b"", 0xFFFF_FFFF_FFFF_F72A),
+        ("load-not-ready", LOAD, iwkey, 2, b"", 0xFFFF_FFFF_FFFF_F76A),
+        ("encode-128", ENCODE_128, {}, 0, b"", 0xFFFF_FFFF_FFFF_F72A),
+        ("encode-256", ENCODE_256, {}, 0, b"", 0xFFFF_FFFF_FFFF_F72A),
+        ("use", ENC_128, {}, 0, h, 0xFFFF_FFFF_FFFF_F72A),
+        ("use-closed", ENC_128, {}, 0, h[:47] + bytes(1), 0xFFFF_FFFF_FFFF_F76A),
+        ("use-illegal", DEC_256, {}, 0, h + bytes(16), 0xFFFF_FFFF_FFFF_F76A),
+        ("wide", WIDE_DEC_128, {}, 0, h, 0xFFFF_FFFF_FFFF_F72A),
+        ("wide-closed", WIDE_DEC_128, {}, 0, bytes(48), 0xFFFF_FFFF_FFFF_F76A),
+    ]:
+        cpu = record(xmm, rax=eax, rflags=2**64 - 1)
+        expect(f"flags-{name}", s.step(f"flags-{name}", string, cpu=cpu, memory=memory), 0)
+        expect(f"flags-{name}", s.cpu.rflags, wanted)
+
+
+def rip(s):
+    for name, string, before, after in [
+        ("2-32", ENCODE_128, 0xFFFF_FFFF, 0x1_0000_0004),
+        ("2-64", LOAD, 0xFFFF_FFFF_FFFF_FFFF, 4),
+        ("not-canonical", ENCODE_256, 0x8000_0000_0000_0000, 0x8000_0000_0000_0005),
+    ]:
+        expect(f"rip-{name}", s.step(f"rip-{name}", string, cpu=record(rip=before)), 0)
+        expect(f"rip-{name}", s.cpu.rip, after)
+
+
+def encode_registers(s):
+    """XMM4 to XMM6 become zero, XMM3 only where the handle reaches it, and no other register changes; the whole destination is written."""
+    s.power_on("encode-power-on", count=1)
+    for key, wanted in [
+        (KEY_128, handle(model.NO_KEY, KEY_128) + block(0x33) + bytes(48) + block(0x37)),
+        (KEY_256, handle(model.NO_KEY, KEY_256) + bytes(48) + block(0x37)),
+    ]:
+        name = f"encode-{8 * len(key)}"
+        expect(name, encode(s, name, key), 0)
+        expect(name, (bytes(s.cpu.bytes[:256]), s.cpu.register(0)), (wanted + bytes(128), 0))
+
+
+def whole_record(s):
+    """A machine whose keys have no two bytes alike, against the scope's order of its 924 bytes."""
+
+    def key(first):
+        return bytes(range(first, first + 48))
+
+    def load_key(name, first, processor=0, **fields):
+        load(s, name, IWKey(key(first)[:16], key(first)[16:]), processor, **fields)
+
+    s.power_on("record-power-on", count=2, features=0x3F)
+    load_key("record-load-store", 0xA0)
+    s.write("record-copy-out-store", 0, COPY_OUT)
+    s.settle("record-settle", GOOD)
+    load_key("record-load-backup", 0x70)
+    s.write("record-copy-out-backup", 0, COPY_OUT)
+    load_key("record-load-0", 0x10)
+    load_key("record-load-1", 0x40, 1, eax=3, random=bytes(48))
+    count_and_features = bytes([2, 0x3F])
+    entries = key(0x10) + bytes([0, 0, 1]) + key(0x40) + bytes([1, 1, 0]) + bytes(14 * 51)
+    backup = bytes([1]) + key(0x70) + bytes([0, 0])
+    store = bytes([1]) + key(0xA0) + bytes([0, 0])
+    wanted = count_and_features + entries + backup + store + bytes([1, 0, 0, 0])
+    expect("record", s.machine, wanted)
+    s.lend("record-alike", wanted)
+    expect("record", s.stdout[-1], "record-alike lend machine")
+    for name, call, bits in [
+        ("settle-good", lambda name: s.settle(name, GOOD), [0, 1, 0, 1]),
+        ("wake-old", lambda name: s.sleep(name, OLD), [0, 1, 0, 0]),
+        ("copy-out", lambda name: s.write(name, 0, COPY_OUT), [1, 0, 0, 0]),
+        ("settle-bad", lambda name: s.settle(name, BAD), [0, 0, 1, 1]),
+        ("wake-junk", lambda name: s.sleep(name, JUNK), [0, 0, 1, 0]),
+    ]:
+        expect(f"record-{name}", call(f"record-{name}"), 0)
+        expect(f"record-{name}", list(s.machine[920:]), bits)
+
+
+def values(s):
+    backup_statuses(s)
+    copy_statuses(s)
+    flags(s)
+    rip(s)
+    encode_registers(s)
+    whole_record(s)
 
 
 # ---- refusals: each meets its own number and later ones, so that the order shows
@@ -539,7 +675,8 @@ def step_refusals(s):
         (5, "control-bit-4", dict(string="", cpu=record(control=CONTROL | 16), random=bytes(1))),
         (5, "control-bit-7", dict(string="", cpu=record(control=CONTROL | 128))),
         (5, "byte-402", dict(string="", cpu=record()[:402] + bytes([1]) + bytes(5))),
-        (5, "byte-407", dict(string="", cpu=record()[:407] + bytes([128]))),
+        (5, "byte-407", dict(string="", cpu=record()[:407] + bytes([1]))),
+        (5, "byte-407-bit-7", dict(string="", cpu=record()[:407] + bytes([128]))),
         (7, "random-1", dict(string="", random=bytes(1))),
         (7, "random-47", dict(string=ENCODE_128, random=bytes(47))),
         (7, "random-49", dict(string=ENCODE_128, random=bytes(49))),
@@ -550,6 +687,8 @@ def step_refusals(s):
         (10, "lock-load", dict(string="f0" + LOAD, cpu=record(cpl=3))),
         (10, "cr4-kl", dict(string=ENC_128, cpu=record(control=ts & ~model.CR4_KL, **noncanonical))),
         (10, "osfxsr", dict(string=ENC_128, cpu=record(control=ts & ~model.CR4_OSFXSR, **noncanonical))),
+        (10, "control-1", dict(string=ENCODE_128, cpu=record(control=1))),
+        (10, "control-2", dict(string=ENCODE_128, cpu=record(control=2))),
         (10, "em", dict(string=LOAD, cpu=record(control=ts | model.CR0_EM, cpl=3))),
         (11, "ts", dict(string=ENC_128, cpu=record(control=ts, **noncanonical))),
         (11, "ts-encode", dict(string=ENCODE_256, cpu=record(control=ts, rcx=8))),
@@ -559,15 +698,18 @@ def step_refusals(s):
         (12, "load-cpl-1", dict(string=LOAD, cpu=record(cpl=1))),
         (12, "load-bit-5", dict(string=LOAD, cpu=record(rax=32))),
         (12, "load-bit-31", dict(string=LOAD, cpu=record(rax=2**31))),
+        (12, "load-source-8", dict(string=LOAD, cpu=record(rax=16))),
         (12, "load-source-15", dict(string=LOAD, cpu=record(rax=30))),
         (12, "not-canonical", dict(string=ENC_128, cpu=record(**noncanonical))),
         (13, "stack-rbp", dict(string="f3 0f 38 dc 45 00", cpu=record(rbp=2**63))),
+        (13, "stack-rbp-sib", dict(string="f3 0f 38 dc 44 0d 00", cpu=record(rbp=2**47))),
         (12, "not-stack-r13", dict(string="f3 41 0f 38 dc 45 00", cpu=record(r13=2**63))),
         (12, "not-stack-r12", dict(string="f3 41 0f 38 dc 04 24", cpu=record(r12=2**63))),
         (12, "not-stack-index-rbp", dict(string="f3 0f 38 dc 04 28", cpu=record(rbp=2**63))),
         (14, "over-the-top", dict(string=ENC_128, cpu=record(rax=2**64 - 8), memory=bytes(64))),
         (12, "into-the-gap", dict(string=ENC_128, cpu=record(rax=0xFFFF7FFFFFFFFFF8))),
         (14, "above-the-gap", dict(string=ENC_128, cpu=record(rax=0xFFFF800000000000))),
+        (14, "rip-2-32", dict(string="f3 0f 38 dc 05 1f 00 00 00", cpu=record(rip=2**32), memory=bytes(40) + handle(A, KEY_128))),
         (14, "memory-63-of-256", dict(string=ENC_256, memory=handle(A, KEY_128) + bytes(15))),
         (14, "memory-0", dict(string=ENC_128)),
     ]
@@ -578,14 +720,24 @@ def step_refusals(s):
 def feature_refusals(s):
     """Each feature off, one at a time."""
     h = handle(model.NO_KEY, KEY_128)
-    for name, bit in [("kl", model.KL), ("firmware", model.FIRMWARE), ("wide", model.WIDE), ("backup", model.BACKUP)]:
+    for name, bit, numbers in [
+        ("kl", model.KL, (10, 10, 10, 10, 12)),
+        ("firmware", model.FIRMWARE, (10, 10, 10, 0, 0)),
+        ("wide", model.WIDE, (0, 10, 0, 0, 0)),
+        ("backup", model.BACKUP, (0, 0, 0, 0, 12)),
+    ]:
         s.power_on(f"no-{name}-power-on", count=1, features=model.ALL_FEATURES & ~bit)
-        kl_or = lambda *bits: 10 if bit in [model.KL, *bits] else 0
-        expect(name, use(s, f"no-{name}-use", ENC_128, h), kl_or(model.FIRMWARE))
-        expect(name, use(s, f"no-{name}-wide", WIDE_ENC_128, h), kl_or(model.FIRMWARE, model.WIDE))
-        expect(name, encode(s, f"no-{name}-encode", KEY_128), kl_or(model.FIRMWARE))
-        expect(name, load(s, f"no-{name}-load", A), kl_or())
-        expect(name, s.write(f"no-{name}-copy-out", 0, COPY_OUT), 12 if bit in [model.KL, model.BACKUP] else 0)
+        used = use(s, f"no-{name}-use", ENC_128, h)
+        if numbers[0] == 0:
+            expect_opened(s, f"no-{name}", key_locker.cipher(KEY_128, PLAIN))
+        found = (
+            used,
+            use(s, f"no-{name}-wide", WIDE_ENC_128, h),
+            encode(s, f"no-{name}-encode", KEY_128),
+            load(s, f"no-{name}-load", A),
+            s.write(f"no-{name}-copy-out", 0, COPY_OUT),
+        )
+        expect(name, found, numbers)
         expect(name, s.settle(f"no-{name}-settle", GOOD), 0)
     s.power_on("no-no-backup-power-on", count=1, features=model.ALL_FEATURES & ~model.NO_BACKUP)
     expect("no-no-backup", load(s, "no-no-backup-load", A, eax=1), 12)
@@ -620,27 +772,48 @@ def register_refusals(s):
 
 def lent_records(s):
     """Records that no list of calls reaches: refused, or taken to the letter."""
-    good = Machine(count=2, features=model.ALL_FEATURES)
-    for name, at, byte in [
-        ("count-0", 0, 0),
-        ("count-17", 0, 17),
-        ("features-64", 1, 64),
-        ("source-2", 2 + 48, 2),
-        ("no-backup-2", 2 + 49, 2),
-        ("copy-status-2", 2 + 50, 2),
-        ("past-the-count", 2 + 51 * 2, 1),
-        ("past-the-count-status", 2 + 51 * 16 - 1, 1),
-        ("backup-2", 818, 2),
-        ("absent-backup", 818 + 50, 1),
-        ("absent-store", 869 + 1, 1),
-        ("pending-2", 920, 2),
-        ("consumed-2", 923, 2),
+    absent = Machine(count=2, features=model.ALL_FEATURES)
+    present = Machine(count=2, features=model.ALL_FEATURES, backup=A, store=B)
+    for name, good, at, byte in [
+        ("count-0", absent, 0, 0),
+        ("count-17", absent, 0, 17),
+        ("features-64", absent, 1, 64),
+        ("features-128", absent, 1, 128),
+        ("source-2", absent, 2 + 48, 2),
+        ("no-backup-2", absent, 2 + 49, 2),
+        ("copy-status-2", absent, 2 + 50, 2),
+        ("past-the-count-integrity", absent, 2 + 51 * 2, 1),
+        ("past-the-count-encryption", absent, 2 + 51 * 2 + 16, 1),
+        ("past-the-count-source", absent, 2 + 51 * 2 + 48, 1),
+        ("past-the-count-no-backup", absent, 2 + 51 * 2 + 49, 1),
+        ("past-the-count-status", absent, 2 + 51 * 2 + 50, 1),
+        ("past-the-count-last", absent, 2 + 51 * 16 - 1, 1),
+        ("backup-2", present, 818, 2),
+        ("backup-source-2", present, 818 + 49, 2),
+        ("backup-no-backup-2", present, 818 + 50, 2),
+        ("absent-backup-integrity", absent, 818 + 1, 1),
+        ("absent-backup-encryption", absent, 818 + 48, 1),
+        ("absent-backup-source", absent, 818 + 49, 1),
+        ("absent-backup-no-backup", absent, 818 + 50, 1),
+        ("store-2", present, 869, 2),
+        ("store-source-2", present, 869 + 49, 2),
+        ("store-no-backup-2", present, 869 + 50, 2),
+        ("absent-store-integrity", absent, 869 + 1, 1),
+        ("absent-store-encryption", absent, 869 + 48, 1),
+        ("absent-store-source", absent, 869 + 49, 1),
+        ("absent-store-no-backup", absent, 869 + 50, 1),
+        ("pending-2", absent, 920, 2),
+        ("valid-2", absent, 921, 2),
+        ("error-2", absent, 922, 2),
+        ("consumed-2", absent, 923, 2),
     ]:
         record = bytearray(good.to_bytes())
         record[at] = byte
         s.lend(f"lent-{name}", bytes(record))
         expect(name, s.reset(f"lent-{name}-reset"), 1)
         expect(name, s.settle(f"lent-{name}-settle", 2), 1)
+    s.lend("lent-present", present.to_bytes())
+    expect("present", s.reset("lent-present-reset"), 0)
     for code in [GOOD, BAD]:
         s.lend("lent-pending-alone", Machine(2, 0, pending=1, error=1).to_bytes())
         s.settle(f"lent-pending-alone-settle-{code}", code)
@@ -673,6 +846,7 @@ def scenarios():
     examples(s)
     attacks(s)
     operands(s)
+    values(s)
     refusals(s)
     return s
 

@@ -1,8 +1,8 @@
 #!/usr/bin/env python3
-"""Makes crates/vectors/stdout, what the program vectors has to write, from the files of test vectors.
+"""Makes crates/vectors/stdin and stdout, what the program vectors is given and has to write, from the files of test vectors.
 
-  vectors_stdout.py          write crates/vectors/stdout
-  vectors_stdout.py --check  exit with 1 where crates/vectors/stdout is something else
+  vectors_stdout.py          write these two files
+  vectors_stdout.py --check  exit with 1 where one of them is something else
 
 A line of a vector file has a kind, a name and fields of hexadecimal digits; '#' begins a comment.
 """
@@ -14,6 +14,7 @@ from pathlib import Path
 
 ROOT = Path(__file__).resolve().parent.parent
 VECTORS = ["tests/vectors/fips197.txt", "tests/vectors/rfc8452.txt", "tests/vectors/handles.txt"]
+STDIN = "crates/vectors/stdin"
 STDOUT = "crates/vectors/stdout"
 
 
@@ -31,7 +32,8 @@ def require_iwkey(integrity, encryption):
     require_bytes(encryption, 32)
 
 
-# One function for each kind of line: of its fields it makes the lines that the program has to write.
+# One function for each kind of line: of its fields it makes those that the program is given, the one of variable length last, and the lines that it has
+# to write. No result is among the former.
 
 
 def expand(name, key, *words):
@@ -41,14 +43,14 @@ def expand(name, key, *words):
     count = {16: 44, 32: 60}[len(key) // 2]
     if len(words) != count or not "".join(words).startswith(key):
         raise BadLine(f"a schedule of this key has {count} words, the key first")
-    return [" ".join(["expand", name, *words])]
+    return [key], [" ".join(["expand", name, *words])]
 
 
 def cipher(name, key, plaintext, ciphertext):
     require_bytes(key, 16, 32)
     require_bytes(plaintext, 16)
     require_bytes(ciphertext, 16)
-    return [
+    return [plaintext, key], [
         f"encrypt {name} {ciphertext}",
         f"decrypt {name} {plaintext}",
         f"encrypt8 {name} {8 * ciphertext}",
@@ -59,15 +61,14 @@ def cipher(name, key, plaintext, ciphertext):
 def operation(kind, name, a, b, result):
     for field in a, b, result:
         require_bytes(field, 16)
-    return [f"{kind} {name} {result}"]
+    return [a, b], [f"{kind} {name} {result}"]
 
 
 def polyval(name, h, blocks, result):
     require_bytes(h, 16)
+    require_bytes(blocks, *(16 * n for n in range(1, 8)))
     require_bytes(result, 16)
-    if not blocks or len(blocks) % 32 != 0:
-        raise BadLine(f"{blocks} is not one or more blocks of 16 bytes")
-    return [f"polyval {name} {result}"]
+    return [h, blocks], [f"polyval {name} {result}"]
 
 
 def handle(name, integrity, encryption, aad, key, handle):
@@ -77,15 +78,16 @@ def handle(name, integrity, encryption, aad, key, handle):
     require_bytes(handle, 32 + len(key) // 2)
     if not handle.startswith(aad):
         raise BadLine("a handle has the AAD first")
-    return [f"wrap {name} {handle}", f"unwrap {name} {key}"]
+    return [integrity, encryption, aad, key], [f"wrap {name} {handle}", f"unwrap {name} {key}"]
 
 
 def refused(name, integrity, encryption, handle):
     require_iwkey(integrity, encryption)
     require_bytes(handle, 48, 64)
-    return [f"unwrap {name} none"]
+    return [integrity, encryption, handle[:32], handle[32:64], handle[64:]], [f"unwrap {name} none"]
 
 
+# In the order of crates/vectors/src/example.rt.
 KINDS = {
     "expand": expand,
     "cipher": cipher,
@@ -99,45 +101,49 @@ KINDS = {
 
 
 def lines_of(line):
-    """The lines that the program has to write for a line of a vector file."""
+    """The lines that the program reads and has to write for a line of a vector file."""
     kind, *fields = line.split("#")[0].split() or [None]
     if kind is None:
-        return []
+        return [], []
     if kind not in KINDS:
         raise BadLine(f"no kind {kind}")
     for field in fields[1:]:
         if not re.fullmatch("[0-9a-f]*", field):
             raise BadLine(f"{field} is not lowercase hexadecimal")
     try:
-        return KINDS[kind](*fields)
+        given, written = KINDS[kind](*fields)
     except TypeError:
         raise BadLine(f"a line of kind {kind} does not have {len(fields)} fields") from None
+    head = f"{list(KINDS).index(kind):02x}{len(given[-1]) // 32:02x}"
+    return [" ".join([fields[0], head, *given])], written
 
 
-def expected():
-    lines = []
+def texts():
+    """What each of the two files has to hold."""
+    stdin, stdout = [], []
     for file in VECTORS:
         for number, line in enumerate((ROOT / file).read_text().splitlines(), 1):
             try:
-                lines += lines_of(line)
+                given, written = lines_of(line)
             except BadLine as bad:
                 sys.exit(f"{file}:{number}: {bad}")
-    return "".join(line + "\n" for line in lines)
+            stdin += given
+            stdout += written
+    return {path: "".join(line + "\n" for line in lines) for path, lines in [(STDIN, stdin), (STDOUT, stdout)]}
 
 
-def check(text):
-    path = ROOT / STDOUT
-    if not path.is_file():
-        sys.exit(f"there is no {STDOUT}; tests/vectors_stdout.py makes it")
-    if path.read_text() != text:
-        sys.exit(f"{STDOUT} is not what the vectors say; tests/vectors_stdout.py makes it anew")
+def check():
+    for path, text in texts().items():
+        if not (ROOT / path).is_file() or (ROOT / path).read_text() != text:
+            sys.exit(f"{path} is not what the vectors say; tests/vectors_stdout.py makes it anew")
 
 
 def main(args):
     if args == ["--check"]:
-        check(expected())
+        check()
     elif not args:
-        (ROOT / STDOUT).write_text(expected())
+        for path, text in texts().items():
+            (ROOT / path).write_text(text)
     else:
         sys.exit(__doc__)
 

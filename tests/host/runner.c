@@ -12,6 +12,7 @@
 #include "coverage.h"
 #include "faults.h"
 #include "generate.h"
+#include "lengths.h"
 #include "selfcheck.h"
 
 /* a shorter run may miss rare events */
@@ -150,8 +151,8 @@ int main(int argc, char **argv)
     printf("seed %" PRIu64 "\n", options.seed);
     fflush(stdout);
     aes_start();
-    /* a planted fault has to be found by the calls */
-    if (!planted_fault() && !model_meets_vectors(options.vectors))
+    /* a planted fault has to be found by the random calls */
+    if (!planted_fault() && (!model_meets_vectors(options.vectors) || !library_meets_lengths()))
         return 2;
     trial.memory_room = calloc(1, MEMORY_ROOM);
     if (!trial.memory_room)

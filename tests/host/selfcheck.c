@@ -92,8 +92,8 @@ static struct vector_kind {
     int least, seen;
 } kinds[] = {
     {"fips197.txt", "cipher", 3, check_cipher, 3, 0},     {"rfc8452.txt", "dot", 3, check_dot, 1, 0},
-    {"rfc8452.txt", "polyval", 3, check_polyval, 30, 0},  {"handles.txt", "handle", 5, check_handle, 3, 0},
-    {"handles.txt", "refused", 3, check_refused, 4, 0},
+    {"rfc8452.txt", "polyval", 3, check_polyval, 51, 0},  {"handles.txt", "handle", 5, check_handle, 28, 0},
+    {"handles.txt", "refused", 3, check_refused, 8, 0},
 };
 
 static bool check_line(struct vector_kind *kind, char *line)

@@ -5,8 +5,6 @@
 ghost use mathlib.Core.Path.{_≡_};
 ghost use Prim.Native.Nat.{_≤_};
 ghost use lib.ListN.{length};
-use crate::line::bytes;
-use crate::line::find;
 use crate::print::print;
 use crate::print::print_answer;
 use crate::print::print_changes;
@@ -15,6 +13,8 @@ use crate::print::print_word;
 use crate::print::word;
 use layout::read_machine;
 use layout::write_machine;
+use line::bytes;
+use line::find;
 use machine::Outcome;
 use machine::Stepped;
 use model::Machine;

@@ -1,10 +1,11 @@
 // FIPS 197's examples.
-use crate::hex::block_of;
-use crate::hex::key_of;
-use crate::hex::print;
-use crate::hex::print_block;
-use crate::hex::print_word;
-use crate::hex::start;
+use crate::example::block;
+use crate::example::key;
+use crate::example::key_size;
+use crate::print::print;
+use crate::print::print_block;
+use crate::print::print_word;
+use crate::print::start;
 use aes::Block;
 use aes::KeySize;
 use aes::word::block_at;
@@ -32,11 +33,12 @@ fn print_schedule(w: [u32; 60], rounds: usize) {
     }
 }
 
-fn expand(name: &[u8], size: KeySize, key: &[u8]) {
+pub fn expand(name: &[u8], a: [u8; 960]) {
+    let size = key_size(a);
     print(b"expand ");
     print(name);
     print_schedule(
-        aes_key::key_expansion(size, key_of(key)),
+        aes_key::key_expansion(size, key(a, 0)),
         aes::cipher::rounds(size),
     );
     print(b"\n");
@@ -74,27 +76,10 @@ fn cipher_eight(name: &[u8], size: KeySize, w: &[u32; 60], plaintext: Block) {
     print(b"\n");
 }
 
-fn cipher(name: &[u8], size: KeySize, key: &[u8], plaintext: &[u8]) {
-    let w = aes_key::key_expansion(size, key_of(key));
-    let b = block_of(plaintext);
-    cipher_one(name, size, &w, b);
-    cipher_eight(name, size, &w, b);
-}
-
-pub fn examples() {
-    let a1 = b"2b7e151628aed2a6abf7158809cf4f3c";
-    let a3 = b"603deb1015ca71be2b73aef0857d77811f352c073b6108d72d9810a30914dff4";
-    let c1 = b"000102030405060708090a0b0c0d0e0f";
-    let c3 = b"000102030405060708090a0b0c0d0e0f101112131415161718191a1b1c1d1e1f";
-    let c = b"00112233445566778899aabbccddeeff";
-    expand(b"A.1", KeySize::Aes128, a1);
-    expand(b"A.3", KeySize::Aes256, a3);
-    cipher(
-        b"B",
-        KeySize::Aes128,
-        a1,
-        b"3243f6a8885a308d313198a2e0370734",
-    );
-    cipher(b"C.1", KeySize::Aes128, c1, c);
-    cipher(b"C.3", KeySize::Aes256, c3, c);
+pub fn cipher(name: &[u8], a: [u8; 960]) {
+    let size = key_size(a);
+    let w = aes_key::key_expansion(size, key(a, 16));
+    let plaintext = block(a, 0);
+    cipher_one(name, size, &w, plaintext);
+    cipher_eight(name, size, &w, plaintext);
 }

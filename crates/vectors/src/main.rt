@@ -1,11 +1,14 @@
-// The papers' examples through the proved code: a line for each, with the bytes that were computed.
+// The papers' examples through the proved code: each line of standard input is one, and is answered by lines with the bytes that were computed.
+mod example;
 mod fips197;
 mod handles;
-mod hex;
+mod print;
 mod rfc8452;
 
+use libc::STDIN_FILENO;
+
 fn main() {
-    fips197::examples();
-    rfc8452::examples();
-    handles::examples();
+    let mut text = io::large_buffer();
+    let n = io::read_full(STDIN_FILENO, &mut text);
+    example::all(&text[..n]);
 }

@@ -3,8 +3,8 @@
 use Prim.Native.Nat.{_≤_, _-_}
 use lib.ListN.{length}
 use borrow.Author.Needs.{needs}
-use Rattle.scenarios.proofs.line.find.Statement.{statement}
-use Rattle.scenarios.proofs.line.find.Tie as tie
+use Rattle.line.proofs.find.Statement.{statement}
+use Rattle.line.proofs.find.Tie as tie
 
 abbrev Inv-loop : tie.InvT-loop
 Inv-loop text from c i₀ i = (from ≤ i) × (i ≤ length text)

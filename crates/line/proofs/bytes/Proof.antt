@@ -4,8 +4,8 @@ use mathlib.Core.Path.{_≡_}
 use Prim.Native.Nat.{_≤_, _-_}
 use lib.ListN.{length}
 use borrow.Author.Needs.{needs}
-use Rattle.scenarios.proofs.line.bytes.Statement.{statement}
-use Rattle.scenarios.proofs.line.bytes.Tie as tie
+use Rattle.line.proofs.bytes.Statement.{statement}
+use Rattle.line.proofs.bytes.Tie as tie
 
 abbrev Inv-loop : tie.InvT-loop
 Inv-loop text a₀ half₀ i₀ a half i = (i ≤ length text) × (length a ≡ 960)

@@ -1,4 +1,4 @@
-// A line of standard input: a name, a blank, and the call as 960 bytes. Two hexadecimal digits are a byte, '.' sixteen zeros and ',' eight; other
+// A line of a program's standard input: a name, a blank, and 960 bytes. Two hexadecimal digits are a byte, '.' sixteen zeros and ',' eight; other
 // characters say nothing, and zeros follow the last byte.
 ghost use Prim.Native.Nat.{_<_, _≤_};
 ghost use lib.ListN.{length};
