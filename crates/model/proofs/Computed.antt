@@ -1,20 +1,27 @@
--- Demand 3's part on keys, computed on lists that have each rule of the history machine at work: an edit that breaks a rule is refused by a value.
+-- Demand 3's part on keys, computed: lists that have each rule of the history machine at work, and one of them down to the keys. An edit that breaks a rule
+-- is refused by a value.
 -- Assumes nothing.
 use mathlib.Core.Path.{_≡_, refl}
+use mathlib.Core.Bool.{true, false}
 use mathlib.Core.List.{List, [], _∷_, _++_, map}
+use mathlib.Core.Option.{Option, none, some}
 use Prim.Native.Nat.{ℕ}
 use lib.ListN.{replicate}
 use Rattle.isa.specs.Decode.{decodeAt, modrmOf, instructionOf}
+use Rattle.model.specs.Records.{holding}
 use Rattle.model.specs.Cpu.{withXmm}
 use Rattle.model.specs.Calls.{PowerOn, Call, step, write, settle, sleep, reset}
 use Rattle.model.specs.Validity.{valid}
 use Rattle.model.specs.Refusals.{tests, refusal}
-use Rattle.model.specs.Instructions.{loadedKey, executed}
-use Rattle.model.specs.Backup.{copyOut, copyIn, settled, woken}
-use Rattle.model.specs.Execution.{perform, call, run, powerOn}
-use Rattle.model.specs.History.{copiedOut, settledNames, moved, history}
-use Rattle.model.specs.Demand3.{held, named}
+use Rattle.model.specs.Instructions.{loadedKey}
+use Rattle.model.specs.Execution.{run, powerOn}
+use Rattle.model.specs.History.{History, copiedOut, settledNames, moved, history}
+use Rattle.model.specs.Demand3.{Holding, held, named, given}
 use Rattle.model.specs.Examples.{rax, onProcessor, loadIwKey}
+use Rattle.model.specs.declared.IwKey.{IwKey}
+use Rattle.model.specs.declared.Processor.{Processor}
+use Rattle.model.specs.declared.Machine.{Machine}
+use Rattle.model.proofs.Demand3.{demand-3}
 
 -- two processors, all features
 abbrev pub two : PowerOn
@@ -40,36 +47,81 @@ sleeping code = sleep (record { code = code })
 abbrev stored : List Call
 stored = load 0 0 [] 1 ∷ out 0 ∷ settling 0 ∷ []
 
--- key 2 in the backup, pending, and key 1 in the store
-abbrev pending : List Call
+-- key 4 in the backup, pending, and key 1 in the store
+abbrev pub pending : List Call
 pending = stored ++ load 0 0 [] 2 ∷ out 0 ∷ []
 
-abbrev lists : List (List Call)
-lists =
+-- ---- the names
+
+-- a list of calls, and the history that it has to leave: names of the two processors, backup, store, pending
+record Line : Type 0 where
+  calls : List Call
+  left : History
+
+abbrev line : List Call → ℕ → ℕ → Option ℕ → Option ℕ → ℕ → Line
+line calls a b backup store pending =
+    record { calls = calls; left = record { names = a ∷ b ∷ []; backup = backup; store = store; pending = pending } }
+
+abbrev lines : List Line
+lines =
     -- a load with random data, and one that is not ready
-    (load 0 2 (replicate 48 0x5A) 1 ∷ [])
-    ∷ (load 0 0 [] 1 ∷ load 0 2 [] 2 ∷ [])
+    line (load 0 2 (replicate 48 0x5A) 1 ∷ []) 1 0 none none 0
+    ∷ line (load 0 0 [] 1 ∷ load 0 2 [] 2 ∷ []) 1 0 none none 0
     -- a copy out at NoBackup, while pending, and once more when settled
-    ∷ (load 0 1 [] 1 ∷ out 0 ∷ [])
-    ∷ (pending ++ load 0 0 [] 3 ∷ out 0 ∷ [])
-    ∷ pending
+    ∷ line (load 0 1 [] 1 ∷ out 0 ∷ []) 1 0 none none 0
+    ∷ line (pending ++ load 0 0 [] 3 ∷ out 0 ∷ []) 6 0 (some 4) (some 1) 1
+    ∷ line pending 4 0 (some 4) (some 1) 1
     -- a copy in without backup, over a key with NoBackup, and once more
-    ∷ (load 0 0 [] 1 ∷ into 0 ∷ [])
-    ∷ (stored ++ load 1 1 [] 2 ∷ into 1 ∷ [])
-    ∷ (stored ++ into 1 ∷ load 0 0 [] 2 ∷ out 0 ∷ into 1 ∷ [])
+    ∷ line (load 0 0 [] 1 ∷ into 0 ∷ []) 1 0 none none 0
+    ∷ line (stored ++ load 1 1 [] 2 ∷ into 1 ∷ []) 1 1 (some 1) (some 1) 0
+    ∷ line (stored ++ into 1 ∷ load 0 0 [] 2 ∷ out 0 ∷ into 1 ∷ []) 5 5 (some 5) (some 1) 1
     -- settled good and bad
-    ∷ (pending ++ settling 0 ∷ [])
-    ∷ (pending ++ settling 1 ∷ [])
+    ∷ line (pending ++ settling 0 ∷ []) 4 0 (some 4) (some 4) 0
+    ∷ line (pending ++ settling 1 ∷ []) 4 0 (some 4) none 0
     -- woken with the old store, the new one and junk, pending and not
-    ∷ (pending ++ sleeping 0 ∷ [])
-    ∷ (pending ++ sleeping 1 ∷ [])
-    ∷ (pending ++ sleeping 2 ∷ [])
-    ∷ (stored ++ sleeping 1 ∷ [])
-    ∷ (stored ++ sleeping 2 ∷ [])
+    ∷ line (pending ++ sleeping 0 ∷ []) 0 0 (some 1) (some 1) 0
+    ∷ line (pending ++ sleeping 1 ∷ []) 0 0 (some 4) (some 4) 0
+    ∷ line (pending ++ sleeping 2 ∷ []) 0 0 none none 0
+    ∷ line (stored ++ sleeping 1 ∷ []) 0 0 (some 1) (some 1) 0
+    ∷ line (stored ++ sleeping 2 ∷ []) 0 0 none none 0
     -- reset
-    ∷ (stored ++ reset ∷ [])
+    ∷ line (stored ++ reset ∷ []) 0 0 none none 0
     ∷ []
 
-pub keys-computed : map (λ l. held (run (powerOn two .machine) l .machine)) lists ≡ map (λ l. named l (history two l)) lists
-unfolding call valid refusal tests perform executed loadedKey copyOut copyIn settled woken moved copiedOut settledNames decodeAt modrmOf instructionOf
-keys-computed = refl
+pub names-computed : map (λ l. history two (l .calls)) lines ≡ map (λ l. l .left) lines
+unfolding refusal tests moved copiedOut settledNames decodeAt modrmOf instructionOf
+names-computed = refl
+
+-- which numbers of calls are names: 0, and that of a load; not that of a write, a load that is not ready, a refused one, or past the end
+pub given-computed : map (given two (load 0 0 [] 1 ∷ out 0 ∷ load 0 2 [] 2 ∷ load 2 0 [] 3 ∷ [])) (0 ∷ 1 ∷ 2 ∷ 3 ∷ 4 ∷ 5 ∷ [])
+    ≡ true ∷ true ∷ false ∷ false ∷ false ∷ false ∷ []
+unfolding refusal tests decodeAt modrmOf instructionOf
+given-computed = refl
+
+-- ---- the keys
+
+-- the IWKey that `load` makes at EAX 0
+abbrev loaded : ℕ → IwKey
+loaded x = record { integrity = replicate 16 x; encryption = replicate 32 0; source = 0; «no_backup» = 0 }
+
+-- what `pending` leaves: the store is not the backup, and one processor not the other
+abbrev kept : Holding
+kept = record { processors = loaded 2 ∷ loaded 0 ∷ []; backup = some (loaded 2); store = some (loaded 1); pending = 1 }
+
+-- a machine that holds it, with an entry past the count
+abbrev entry : ℕ → Processor
+entry x = record { key = loaded x; «copy_status» = 0 }
+
+abbrev holder : Machine
+holder =
+    record {
+      count = 2;
+      features = 63;
+      processors = entry 2 ∷ entry 0 ∷ entry 3 ∷ [];
+      platform = record { backup = holding (loaded 2); store = holding (loaded 1); pending = 1; valid = 0; error = 0; consumed = 0 };
+    }
+
+-- both sides of demand 3's equation, each by itself, and so the machine after these calls
+pub keys-computed : (held holder ≡ kept) × (named pending (history two pending) ≡ kept) × (held (run (powerOn two .machine) pending .machine) ≡ kept)
+unfolding refusal tests moved copiedOut settledNames loadedKey decodeAt modrmOf instructionOf
+keys-computed = (refl, refl, demand-3 two refl pending .keys)

@@ -2,10 +2,13 @@
 -- Assumes nothing.
 use mathlib.Core.Path.{_≡_, refl, ap}
 use mathlib.Core.List.{List, [], _∷_}
+use mathlib.Core.Option.{Option, none, some}
 use Prim.Native.Nat.{ℕ, zero, suc, _+_, _*_}
 use native.Mathlib.Omega.{arith}
 use lib.ListN.{length, getD, take, drop, replicate, length-replicate}
 use lib.Seq.{sets}
+use Rattle.aes.specs.declared.Direction.the-variants.{Encrypt}
+use Rattle.aes.specs.declared.KeySize.the-variants.{Aes256}
 use Rattle.handle.specs.Format.{aad}
 use Rattle.handle.specs.Wrap.{wrapKey}
 use Rattle.handle.proofs.Aad.{aad-length}
@@ -14,13 +17,16 @@ use Rattle.isa.specs.Address.{effectiveAddress}
 use Rattle.isa.specs.Decode.{decodeAt, displacement32, displacementAt, indexOf, sibOf, modrmOf, instructionOf}
 use Rattle.isa.specs.Ranges.{someNotCanonical, someOutside}
 use Rattle.model.specs.Records.{zeroKey}
-use Rattle.model.specs.Cpu.{xmmAt, register, withRegister, withZf}
+use Rattle.model.specs.Cpu as Cpu
+use Rattle.model.specs.Cpu.{xmmAt, xmm, register, withXmm, withRegister, withZf}
 use Rattle.model.specs.Validity.{valid}
 use Rattle.model.specs.Refusals.{tests, refusal}
-use Rattle.model.specs.Instructions.{encoded, loadedKey, advanced, executed}
+use Rattle.model.specs.Instructions.{encoded, openedFor, aes, ciphered, used, loadedKey, advanced, executed}
+use Rattle.model.specs.Backup.{copyOut, settled, woken}
 use Rattle.model.specs.Execution.{perform, call}
 use Rattle.model.specs.declared.IwKey.{IwKey}
-use Rattle.model.specs.Examples.{Every, rax, cpu, randomKey, examples}
+use Rattle.model.specs.Examples.{Every, rax, rip, cpu, randomKey, examples}
+use Rattle.model.proofs.Uses.{aes-length}
 
 -- ---- the examples that encode: what is seen of them does not depend on the tag and the ciphertext
 
@@ -60,6 +66,14 @@ k9 = ap (λ (h : List ℕ). take 16 (stored (rax 1) 0 h)) (handle-eq zeroKey 1 1
 k11 : register 1 (stored cpu 3 (handle randomKey 0 0 1)) ≡ 3
 k11 = ap (λ (h : List ℕ). register 1 (stored cpu 3 h)) (handle-eq randomKey 0 0 1)
 
+-- ---- RIP after a use, whether its handle gives a key or not
+
+k6 : (o : Option (List ℕ)) → Cpu.rip (advanced 10 (ciphered Encrypt Aes256 (8 ∷ []) o (rip 0))) ≡ 10
+k6 none = refl
+k6 (some key) =
+    let b = aes Encrypt Aes256 key (xmm 8 (rip 0)) in
+    ap (λ (x : List ℕ). Cpu.rip (advanced 10 (withZf 0 (withXmm 8 x (rip 0))))) (spelled-eq 16 b (aes-length Encrypt Aes256 key (xmm 8 (rip 0))))
+
 -- ---- all
 
 infixr 67 _also_
@@ -67,7 +81,7 @@ _also_ : {A B : Type 0} → A → B → A × B
 a also b = (a, b)
 
 pub all-hold : Every examples
-unfolding call valid refusal tests perform executed encoded loadedKey
+unfolding call valid refusal tests perform executed encoded used loadedKey copyOut settled woken
     decodeAt modrmOf sibOf indexOf displacementAt displacement32 instructionOf effectiveAddress someNotCanonical someOutside
 all-hold =
     -- K1
@@ -98,4 +112,8 @@ all-hold =
     (refl, tt) also (refl, tt) also
     -- LOCK, TS, an encode at CPL 3, the halves of the encryption key
     (refl, tt) also (refl, tt) also (refl, tt) also (refl, refl) also
+    -- two refusals, a zero field, LOADIWKEY's EAX, a backup register
+    (refl, tt) also (refl, tt) also (refl, tt) also (refl, tt) also (refl, tt) also (refl, tt) also (refl, tt) also
+    -- RFLAGS, RIP, the backup status
+    (refl, refl) also (refl, k6 (openedFor zeroKey 0 Aes256 Encrypt (replicate 64 0))) also (refl, refl) also (refl, refl) also (refl, refl) also
     tt

@@ -1,4 +1,4 @@
--- The scope, "Twelve settled examples": K1 to K12 as one list, with a few more behind them, and what it is for an example to hold.
+-- The scope, "Twelve settled examples": K1 to K12 as one list, with more behind them that no other theorem stands for, and what it is for an example to hold.
 -- Assumes nothing.
 use mathlib.Core.Path.{_≡_}
 use mathlib.Core.List.{List, [], _∷_, _++_}
@@ -14,39 +14,46 @@ use Rattle.isa.specs.Decode.{decode}
 use Rattle.isa.specs.declared.Decoded.{Decoded}
 use Rattle.isa.specs.declared.Decoded.the-variants as decoded
 use Rattle.model.specs.Records.{processorAt}
-use Rattle.model.specs.Cpu.{cpuSize, cplAt, controlAt, register, withXmm, withRegister, withRip}
+use Rattle.model.specs.Cpu as Cpu
+use Rattle.model.specs.Cpu.{cpuSize, rflagsAt, cplAt, controlAt, register, rflags, withXmm, withRegister, withRip}
 use Rattle.model.specs.Forms.{Form, formOf, handleAddress}
-use Rattle.model.specs.Calls.{PowerOn, StepCall, Call, step, Outcome}
+use Rattle.model.specs.Calls.{PowerOn, StepCall, Call, step, read, write, settle, sleep, stepOf, Outcome}
 use Rattle.model.specs.Execution.{powerOn, call, run}
 use Rattle.model.specs.declared.IwKey.{IwKey}
 
 -- ---- what an example is
 
--- what is to be seen of a step, besides its number
+-- what is to be seen of a call, besides its number
 pub data Sight : Type 0 where
   nothing : Sight
   -- it is a use with this direction and key size, on these XMM registers, with a handle from this address
   uses : Direction → KeySize → List ℕ → ℕ → Sight
-  -- the processor's IWKey afterwards
+  -- afterwards: processor 0's IWKey
   keyIs : IwKey → Sight
-  -- the first 16 bytes of the handle in XMM0 and on, afterwards
+  -- the first 16 bytes of the handle in XMM0 and on
   aadIs : List ℕ → Sight
-  -- a register, and its number afterwards
+  -- a register, and its number
   registerIs : ℕ → ℕ → Sight
+  -- RIP
+  ripIs : ℕ → Sight
+  -- RFLAGS
+  rflagsIs : ℕ → Sight
+  -- the value read
+  valueIs : ℕ → Sight
 
--- a power-on, the calls before, the step that the example is about, its number (0 where it is not refused), and what is to be seen
+-- a power-on, the calls before, the call that the example is about, its number (0 where it is not refused), and what is to be seen
 pub record Example : Type 0 where
   pub power : PowerOn
   pub before : List Call
-  pub last : StepCall
+  pub last : Call
   pub number : ℕ
   pub sight : Sight
 
 -- ---- what it is for one to hold
 
--- what the step gives
+-- what the call gives
 abbrev pub outcome : Example → Outcome
-outcome e = call (run (powerOn (e .power) .machine) (e .before) .machine) (step (e .last))
+outcome e = call (run (powerOn (e .power) .machine) (e .before) .machine) (e .last)
 
 -- the use in a step, if it is one
 abbrev pub useSeen : StepCall → ℕ → Form → Sight
@@ -57,12 +64,19 @@ seenIn s (decoded.Found what lock bytes) = Option·map (useSeen s bytes) (formOf
 seenIn s decoded.BadByte = none
 seenIn s decoded.EndOfString = none
 
-abbrev pub Seen : Sight → StepCall → Outcome → Type 0
-Seen nothing s o = Unit {0}
-Seen (uses d k b a) s o = seenIn s (decode (s .string)) ≡ some (uses d k b a)
-Seen (keyIs k) s o = processorAt (o .machine) (s .processor) .key ≡ k
-Seen (aadIs a) s o = take 16 (o .answer .cpu) ≡ a
-Seen (registerIs n x) s o = register n (o .answer .cpu) ≡ x
+abbrev pub seen : Option StepCall → Option Sight
+seen none = none
+seen (some s) = seenIn s (decode (s .string))
+
+abbrev pub Seen : Sight → Call → Outcome → Type 0
+Seen nothing c o = Unit {0}
+Seen (uses d k b a) c o = seen (stepOf c) ≡ some (uses d k b a)
+Seen (keyIs k) c o = processorAt (o .machine) 0 .key ≡ k
+Seen (aadIs a) c o = take 16 (o .answer .cpu) ≡ a
+Seen (registerIs n x) c o = register n (o .answer .cpu) ≡ x
+Seen (ripIs x) c o = Cpu.rip (o .answer .cpu) ≡ x
+Seen (rflagsIs x) c o = rflags (o .answer .cpu) ≡ x
+Seen (valueIs x) c o = o .answer .value ≡ x
 
 abbrev pub Holds : Example → Type 0
 Holds e = (outcome e .answer .number ≡ e .number) × Seen (e .sight) (e .last) (outcome e)
@@ -82,6 +96,9 @@ sixteen = record { count = 16; features = 63 }
 
 abbrev pub noFirmware : PowerOn
 noFirmware = record { count = 1; features = 61 }
+
+abbrev pub noNoBackup : PowerOn
+noNoBackup = record { count = 1; features = 47 }
 
 -- the CPU record: control bits 3, all else zero
 abbrev pub cpu : List ℕ
@@ -104,17 +121,25 @@ onProcessor p c memory random string = record { processor = p; cpu = c; memory =
 abbrev pub on : List ℕ → ℕ → List ℕ → StepCall
 on c memory string = onProcessor 0 c memory [] string
 
--- after a power-on and calls, a step gives a number, and this is seen
-abbrev pub after : PowerOn → List Call → StepCall → ℕ → Sight → Example
-after p before s n x = record { power = p; before = before; last = s; number = n; sight = x }
+-- after a power-on and calls, a call gives a number, and this is seen
+abbrev pub after : PowerOn → List Call → Call → ℕ → Sight → Example
+after p before c n x = record { power = p; before = before; last = c; number = n; sight = x }
 
 -- on one processor with all features: the step gives a number
 abbrev pub gives : StepCall → ℕ → Example
-gives s n = after allFeatures [] s n nothing
+gives s n = after allFeatures [] (step s) n nothing
 
 -- the same: the step is not refused, and this is seen
 abbrev pub shows : StepCall → Sight → Example
-shows s x = after allFeatures [] s 0 x
+shows s x = after allFeatures [] (step s) 0 x
+
+-- a backup register of processor 0, at this CPL
+abbrev pub writes : ℕ → ℕ → ℕ → Call
+writes cpl address value = write (record { processor = 0; cpl = cpl; address = address; value = value })
+
+-- after calls, IA32_IWKEYBACKUP_STATUS reads as this
+abbrev pub backupStatus : List Call → ℕ → Example
+backupStatus before x = after allFeatures before (read (record { processor = 0; cpl = 0; address = 0x991 })) 0 (valueIs x)
 
 -- ---- strings
 
@@ -183,13 +208,13 @@ examples =
     ∷ gives (on (rax 4) 0 loadIwKey) 12
     ∷ shows randomLoad (keyIs randomKey)
     -- K11 after K10's load with EAX 3 and 48 random bytes an encode's destination is 3.
-    ∷ after allFeatures (step randomLoad ∷ []) (on cpu 0 encodeKey128) 0 (registerIs 1 3)
+    ∷ after allFeatures (step randomLoad ∷ []) (step (on cpu 0 encodeKey128)) 0 (registerIs 1 3)
     -- K12 processor 15 of 16 exists; 16 gives 3.
-    ∷ after sixteen [] (onProcessor 15 cpu 48 [] encrypt) 0 nothing
-    ∷ after sixteen [] (onProcessor 16 cpu 48 [] encrypt) 3 nothing
+    ∷ after sixteen [] (step (onProcessor 15 cpu 48 [] encrypt)) 0 nothing
+    ∷ after sixteen [] (step (onProcessor 16 cpu 48 [] encrypt)) 3 nothing
     -- beside the twelve: refusal 10, "firmware bit off (not for LOADIWKEY ..)"; features 61 are all but this bit
-    ∷ after noFirmware [] (on cpu 0 loadIwKey) 0 nothing
-    ∷ after noFirmware [] (on cpu 0 encodeKey128) 10 nothing
+    ∷ after noFirmware [] (step (on cpu 0 loadIwKey)) 0 nothing
+    ∷ after noFirmware [] (step (on cpu 0 encodeKey128)) 10 nothing
     -- "#UD: LOCK"; "#NM: TS on", bit 3 of the control bits
     ∷ gives (on (rax 0) 48 (0xF0 ∷ encrypt)) 10
     ∷ gives (on (sets (rax 0) controlAt (0x0B ∷ [])) 48 encrypt) 11
@@ -197,4 +222,22 @@ examples =
     ∷ gives (on (sets (rax 1) cplAt (3 ∷ [])) 0 encodeKey128) 0
     -- "Encryption key low half SRC2, high half SRC1"
     ∷ shows (on halvesCpu 0 loadIwKey) (keyIs halvesKey)
+    -- what comes first of two: 3 of 4, 10 of 11, 11 of 12
+    ∷ after sixteen [] (step (onProcessor 16 [] 48 [] encrypt)) 3 nothing
+    ∷ gives (on (sets (rax 0) controlAt (0x0B ∷ [])) 48 (0xF0 ∷ encrypt)) 10
+    ∷ gives (on (sets (rax 8) controlAt (0x0B ∷ [])) 0 encodeKey128) 11
+    -- "others zero", of the control bits
+    ∷ gives (on (sets (rax 0) controlAt (0x13 ∷ [])) 48 encrypt) 5
+    -- "EAX bits 31:5 set", "NoBackup .. unsupported" (features 47 are all but this one), "a backup register at CPL above 0"
+    ∷ gives (on (rax 0x20) 0 loadIwKey) 12
+    ∷ after noNoBackup [] (step (on (rax 1) 0 loadIwKey)) 12 nothing
+    ∷ after allFeatures [] (writes 1 0xD91 1) 12 nothing
+    -- RFLAGS all ones before a load: "CF bit 0, PF 2, AF 4, ZF 6, SF 7, OF 11" are 0 after it, the others kept
+    ∷ shows (on (sets cpu rflagsAt (replicate 8 0xFF)) 0 loadIwKey) (rflagsIs 0xFFFF_FFFF_FFFF_F72A)
+    -- K6's instruction has ten bytes
+    ∷ shows (on (rip 0) 90 ripRelative) (ripIs 10)
+    -- "valid in bit 0, error 2, consumed 3": a good settle, a bad one, and a sleep that leaves junk
+    ∷ backupStatus (writes 0 0xD91 1 ∷ settle (record { code = 0 }) ∷ []) 9
+    ∷ backupStatus (writes 0 0xD91 1 ∷ settle (record { code = 1 }) ∷ []) 12
+    ∷ backupStatus (sleep (record { code = 2 }) ∷ []) 4
     ∷ []
