@@ -1,0 +1,96 @@
+-- What the status registers tell (Intel 343965-001US chapter 4), over the names of the history machine: IA32_COPY_STATUS (0x990) of a processor, and the
+-- valid bit of IA32_IWKEYBACKUP_STATUS (0x991).
+-- Assumes nothing.
+use mathlib.Core.Path.{_≡_}
+use mathlib.Core.Bool.{Bool, true, false, cond, not, _&&_, _||_}
+use mathlib.Core.List.{List, [], _∷_, _++_}
+use mathlib.Core.Option.{Option, none, some}
+use Prim.Native.Nat.{ℕ}
+use lib.Dec.{eqb}
+use lib.ListN.{length}
+use Rattle.model.specs.Numbers.{bit}
+use Rattle.model.specs.Calls.{PowerOn, ReadCall, Call, step, read, write, settle, sleep, reset}
+use Rattle.model.specs.Refusals.{refusal}
+use Rattle.model.specs.Execution.{Run}
+use Rattle.model.specs.History.{History, atFirst, viewGiven, loads, copiesOut, next, history}
+use Rattle.model.specs.Demand3.{answerAt}
+
+-- backup or store is a name
+abbrev pub isName : Option ℕ → Bool
+isName none = false
+isName (some n) = true
+
+-- which calls a refusal does not stop
+abbrev pub accepted : PowerOn → Call → Bool
+accepted p c = eqb (refusal (viewGiven p) c) 0
+
+-- ---- copy status
+
+-- what a call does to the copy status of processor q, from the names just before it. A copy on q sets it: to 1 where nothing is pending and the name has
+-- no NoBackup (out), where the backup is a name (in), and else to 0. Sleep and reset set it to 0. No other call touches it.
+abbrev pub statusMoved : List Call → History → ℕ → Call → ℕ → ℕ
+statusMoved past h q (step s) old = old
+statusMoved past h q (read r) old = old
+statusMoved past h q (write w) old =
+    cond (bit 0 (w .value) && eqb (w .processor) q) (cond (eqb (w .address) 0xD91) (cond (copiesOut past q h) 1 0) (cond (isName (h .backup)) 1 0)) old
+statusMoved past h q (settle s) old = old
+statusMoved past h q (sleep s) old = 0
+statusMoved past h q reset old = 0
+
+abbrev pub statusNext : PowerOn → List Call → History → ℕ → Call → ℕ → ℕ
+statusNext p past h q c old = cond (accepted p c) (statusMoved past h q c old) old
+
+abbrev pub statusFrom : PowerOn → List Call → History → ℕ → ℕ → List Call → ℕ
+statusFrom p past h q old [] = old
+statusFrom p past h q old (c ∷ l) = statusFrom p (past ++ (c ∷ [])) (next p past c h) q (statusNext p past h q c old) l
+
+-- the copy status of processor q after a list of calls from power-on: 0 at first
+abbrev pub copyStatus : PowerOn → List Call → ℕ → ℕ
+copyStatus p calls q = statusFrom p [] (atFirst p) q 0 calls
+
+-- a call that cannot change the copy status of q: it is refused, or neither a copy on q nor a sleep or reset
+abbrev pub noCopyOn : ℕ → Call → Bool
+noCopyOn q (step s) = true
+noCopyOn q (read r) = true
+noCopyOn q (write w) = not (bit 0 (w .value) && eqb (w .processor) q)
+noCopyOn q (settle s) = true
+noCopyOn q (sleep s) = false
+noCopyOn q reset = false
+
+abbrev pub statusLeft : PowerOn → ℕ → List Call → Bool
+statusLeft p q [] = true
+statusLeft p q (c ∷ l) = (not (accepted p c) || noCopyOn q c) && statusLeft p q l
+
+-- ---- valid
+
+-- nothing is pending, and the store is a name
+abbrev pub backedUp : History → Bool
+backedUp h = eqb (h .pending) 0 && isName (h .store)
+
+-- ---- what reads answer
+
+-- after a power-on p that was not refused, the calls were made and gave r
+pub record StatusRegisters (p : PowerOn) (calls : List Call) (r : Run) : Type 0 where
+  -- a read of 0x990 gives the copy status of its processor
+  pub copyStatusRead : (xs : List Call) (c : ReadCall) (ys : List Call) → calls ≡ xs ++ read c ∷ ys → answerAt r (length xs) .number ≡ 0
+      → c .address ≡ 0x990 → answerAt r (length xs) .value ≡ copyStatus p xs (c .processor)
+  -- bit 0 of a read of 0x991, on any processor
+  pub validRead : (xs : List Call) (c : ReadCall) (ys : List Call) → calls ≡ xs ++ read c ∷ ys → answerAt r (length xs) .number ≡ 0
+      → c .address ≡ 0x991 → bit 0 (answerAt r (length xs) .value) ≡ backedUp (history p xs)
+
+-- ---- the operator's rule
+
+-- a call that leaves the IWKey of q and the backup: no load and no copy in on q, no copy out that succeeds on any processor, no sleep, no reset
+abbrev pub leaves : List Call → History → ℕ → Call → Bool
+leaves past h q (step s) = not (loads s && eqb (s .processor) q)
+leaves past h q (read r) = true
+leaves past h q (write w) =
+    not (bit 0 (w .value)) || cond (eqb (w .address) 0xD91) (not (copiesOut past (w .processor) h)) (not (eqb (w .processor) q))
+leaves past h q (settle s) = true
+leaves past h q (sleep s) = false
+leaves past h q reset = false
+
+-- of calls that follow those past, each is refused or leaves both
+abbrev pub undisturbed : PowerOn → List Call → History → ℕ → List Call → Bool
+undisturbed p past h q [] = true
+undisturbed p past h q (c ∷ l) = (not (accepted p c) || leaves past h q c) && undisturbed p (past ++ (c ∷ [])) (next p past c h) q l
