@@ -122,14 +122,14 @@ module _ (p : PowerOn) (past : List Call) (f g f′ g′ : ℕ → Bool) (s : St
 -- ---- lists
 
 -- what every call keeps
-along : (p : PowerOn) (P : List Call → History → Type 0) → ((past : List Call) (c : Call) (h : History) → P past h → P (past ++ (c ∷ [])) (next p past c h))
+pub along : (p : PowerOn) (P : List Call → History → Type 0) → ((past : List Call) (c : Call) (h : History) → P past h → P (past ++ (c ∷ [])) (next p past c h))
     → (past calls : List Call) (h : History) → P past h → P (past ++ calls) (historyFrom p past h calls)
 along p P s past [] h t = subst (λ (l : List Call). P l h) (sym (append-nil past)) t
 along p P s past (c ∷ calls) h t =
     subst (λ (l : List Call). P l (historyFrom p past h (c ∷ calls))) (append-snoc past c calls)
     (along p P s (past ++ (c ∷ [])) calls (next p past c h) (s past c h t))
 
-history-append : (p : PowerOn) (past xs ys : List Call) (h : History)
+pub history-append : (p : PowerOn) (past xs ys : List Call) (h : History)
     → historyFrom p past h (xs ++ ys) ≡ historyFrom p (past ++ xs) (historyFrom p past h xs) ys
 history-append p past [] ys h = ap (λ (l : List Call). historyFrom p l h ys) (sym (append-nil past))
 history-append p past (c ∷ xs) ys h =

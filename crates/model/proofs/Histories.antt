@@ -195,20 +195,20 @@ pub record Holds (p : PowerOn) (past : List Call) (m : Machine) (h : History) : 
   pub givens : T (everyName (given p past) h)
 
 -- what has to be shown after a move
-record Moved (p : PowerOn) (calls : List Call) (m : Machine) (h : History) : Type 0 where
-  entries : length (m .processors) ≡ processorLimit
-  names : length (h .names) ≡ p .count
-  keys : held m ≡ named calls h
-  givens : T (everyName (given p calls) h)
+pub record Moved (p : PowerOn) (calls : List Call) (m : Machine) (h : History) : Type 0 where
+  pub entries : length (m .processors) ≡ processorLimit
+  pub names : length (h .names) ≡ p .count
+  pub keys : held m ≡ named calls h
+  pub givens : T (everyName (given p calls) h)
 
-slot-none : (s : Slot) → _≡_ {A = Option IwKey} (slotKey s) none → eqb (s .present) 1 ≡ false
+pub slot-none : (s : Slot) → _≡_ {A = Option IwKey} (slotKey s) none → eqb (s .present) 1 ≡ false
 slot-none s q = go (eqb (s .present) 1) q
   where
     go : (t : Bool) → _≡_ {A = Option IwKey} (cond t (some (s .key)) none) none → t ≡ false
     go true q = absurd (Option·some-ne-none (s .key) q)
     go false q = refl
 
-slot-some : (s : Slot) (k : IwKey) → _≡_ {A = Option IwKey} (slotKey s) (some k) → (eqb (s .present) 1 ≡ true) × (s .key ≡ k)
+pub slot-some : (s : Slot) (k : IwKey) → _≡_ {A = Option IwKey} (slotKey s) (some k) → (eqb (s .present) 1 ≡ true) × (s .key ≡ k)
 slot-some s k q = go (eqb (s .present) 1) q
   where
     go : (t : Bool) → _≡_ {A = Option IwKey} (cond t (some (s .key)) none) (some k) → (t ≡ true) × (s .key ≡ k)
@@ -217,7 +217,7 @@ slot-some s k q = go (eqb (s .present) 1) q
 
 -- each processor's IWKey is its name's key
 module _ (p : PowerOn) (calls : List Call) (m : Machine) (h : History) (inv : Holds p calls m h) where
-  same-count : m .count ≡ p .count
+  pub same-count : m .count ≡ p .count
   same-count = ap (λ (v : View). v .count) (inv .view)
 
   processors-named : map (λ (e : Processor). e .key) (take (m .count) (m .processors)) ≡ map (keyOf calls) (h .names)
@@ -330,7 +330,7 @@ module _ (p : PowerOn) (past : List Call) (c : Call) (m : Machine) (h : History)
       pending-told : m .platform .pending ≡ h .pending
       pending-told = λ j. inv .keys j .pending
 
-      fails-told : (eqb (entry .key .«no_backup») 1 || eqb (m .platform .pending) 1)
+      pub fails-told : (eqb (entry .key .«no_backup») 1 || eqb (m .platform .pending) 1)
           ≡ not (eqb (h .pending) 0 && eqb (noBackupOf past (nameAt q h)) 0)
       fails-told =
           let n = noBackupOf past (nameAt q h) in
@@ -518,7 +518,7 @@ module _ (p : PowerOn) (past : List Call) (c : Call) (m : Machine) (h : History)
 -- ---- every call
 
 -- the call is added to those past: nothing has moved yet
-more-past : (p : PowerOn) (past : List Call) (c : Call) (m : Machine) (h : History) → Holds p past m h → Holds p (past ++ (c ∷ [])) m h
+pub more-past : (p : PowerOn) (past : List Call) (c : Call) (m : Machine) (h : History) → Holds p past m h → Holds p (past ++ (c ∷ [])) m h
 more-past p past c m h inv =
     record {
       isValid = inv .isValid;
@@ -529,7 +529,7 @@ more-past p past c m h inv =
       givens = every-more (given p past) (given p (past ++ (c ∷ []))) (given-more p past (c ∷ [])) h (inv .givens);
     }
 
-performed-moved : (p : PowerOn) (past : List Call) (c : Call) (m : Machine) (h : History) → Holds p past m h → refusal (viewGiven p) c ≡ 0
+pub performed-moved : (p : PowerOn) (past : List Call) (c : Call) (m : Machine) (h : History) → Holds p past m h → refusal (viewGiven p) c ≡ 0
     → Moved p (past ++ (c ∷ [])) (perform m c .machine) (moved p past c h)
 unfolding perform moved
 performed-moved p past (step s) m h inv a =
@@ -552,19 +552,19 @@ module _ (p : PowerOn) (past : List Call) (c : Call) (m : Machine) (h : History)
   pub number-told : numberOf m c ≡ refusal (viewGiven p) c
   number-told = valid-number m c (inv .isValid) ∙ ap (λ (v : View). refusal v c) (inv .view)
 
+  -- a property of the machine after the call, by the two ways of the history machine
+  pub by-refusal : (P : Machine → Bool → Type 0) → (refusal (viewGiven p) c ≡ 0 → P (perform m c .machine) true) → P m false
+      → P (call m c .machine) (eqb (refusal (viewGiven p) c) 0)
+  by-refusal P f g =
+      by-number m c (λ o. P (o .machine) (eqb (refusal (viewGiven p) c) 0))
+      (λ e. let a = sym number-told ∙ e in subst (P (perform m c .machine)) (sym (eq-eqb (refusal (viewGiven p) c) 0 a)) (f a))
+      (λ e. subst (P m) (sym (ne-eqb (refusal (viewGiven p) c) 0 (λ q. e (number-told ∙ q)))) g)
+
   after-call : Moved p (past ++ (c ∷ [])) (call m c .machine) (next p past c h)
   after-call =
-      by-number m c (λ o. Moved p (past ++ (c ∷ [])) (o .machine) (next p past c h))
-      (λ e.
-      let a = sym number-told ∙ e in
-      subst (λ (g : History). Moved p (past ++ (c ∷ [])) (perform m c .machine) g)
-      (sym (cond-on (eq-eqb (refusal (viewGiven p) c) 0 a) (moved p past c h) h))
-      (performed-moved p past c m h inv a))
-      (λ e.
       let more = more-past p past c m h inv in
-      subst (λ (g : History). Moved p (past ++ (c ∷ [])) m g)
-      (sym (cond-off (ne-eqb (refusal (viewGiven p) c) 0 (λ q. e (number-told ∙ q))) (moved p past c h) h))
-      (record { entries = more .entries; names = more .names; keys = more .keys; givens = more .givens }))
+      by-refusal (λ n t. Moved p (past ++ (c ∷ [])) n (cond t (moved p past c h) h)) (performed-moved p past c m h inv)
+      (record { entries = more .entries; names = more .names; keys = more .keys; givens = more .givens })
 
   pub holds-next : Holds p (past ++ (c ∷ [])) (call m c .machine) (next p past c h)
   holds-next =

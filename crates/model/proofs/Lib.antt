@@ -8,6 +8,7 @@ pub mod Validities
 pub mod Histories
 pub mod Demand3
 pub mod Corollaries
+pub mod Status
 pub mod Bytes
 pub mod Shapes
 pub mod Lent

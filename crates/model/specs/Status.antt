@@ -9,7 +9,7 @@ use Prim.Native.Nat.{ℕ}
 use lib.Dec.{eqb}
 use lib.ListN.{length}
 use Rattle.model.specs.Numbers.{bit}
-use Rattle.model.specs.Calls.{PowerOn, ReadCall, Call, step, read, write, settle, sleep, reset}
+use Rattle.model.specs.Calls.{PowerOn, ReadCall, WriteCall, Call, step, read, write, settle, sleep, reset}
 use Rattle.model.specs.Refusals.{refusal}
 use Rattle.model.specs.Execution.{Run}
 use Rattle.model.specs.History.{History, atFirst, viewGiven, loads, copiesOut, next, history}
@@ -94,3 +94,25 @@ leaves past h q reset = false
 abbrev pub undisturbed : PowerOn → List Call → History → ℕ → List Call → Bool
 undisturbed p past h q [] = true
 undisturbed p past h q (c ∷ l) = (not (accepted p c) || leaves past h q c) && undisturbed p (past ++ (c ∷ [])) (next p past c h) q l
+
+-- the list: w writes, c reads copy status directly after it, v reads valid; xs stand before, ys between the reads
+abbrev pub ruleCalls : List Call → WriteCall → ReadCall → List Call → ReadCall → List Call
+ruleCalls xs w c ys v = xs ++ write w ∷ [] ++ read c ∷ ys ++ read v ∷ []
+
+-- what the operator does and reads, on the processor of w, where the list gave r
+pub record OperatorRule (p : PowerOn) (r : Run) (xs : List Call) (w : WriteCall) (c : ReadCall) (ys : List Call) (v : ReadCall) : Type 0 where
+  -- "a write of 1 to 0xD91 on p"
+  pub one : bit 0 (w .value) ≡ true
+  pub copyOut : w .address ≡ 0xD91
+  pub written : answerAt r (length xs) .number ≡ 0
+  -- "copy status of p read 1 directly after it"
+  pub sameProcessor : c .processor ≡ w .processor
+  pub copyStatusAsked : c .address ≡ 0x990
+  pub copyStatusTold : answerAt r (length (xs ++ write w ∷ [])) .number ≡ 0
+  pub copied : answerAt r (length (xs ++ write w ∷ [])) .value ≡ 1
+  -- "no load and no 0xD92 on p, no other successful 0xD91 on any processor, no sleep and no reset followed"
+  pub followed : undisturbed p (xs ++ write w ∷ []) (history p (xs ++ write w ∷ [])) (w .processor) (read c ∷ ys) ≡ true
+  -- "valid 1"
+  pub validAsked : v .address ≡ 0x991
+  pub validTold : answerAt r (length (xs ++ write w ∷ [] ++ read c ∷ ys)) .number ≡ 0
+  pub isValid : bit 0 (answerAt r (length (xs ++ write w ∷ [] ++ read c ∷ ys)) .value) ≡ true
