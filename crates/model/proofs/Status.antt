@@ -4,7 +4,7 @@ use mathlib.Core.Path.{_≡_, _∙_, refl, sym, ap, ap₂, subst}
 use mathlib.Core.Bool.{Bool, true, false, cond, not, _&&_, _||_, and-true, and-false, true≢false, false≢true}
 use mathlib.Core.List.{List, [], _∷_, _++_, map, append-nil, append-assoc}
 use mathlib.Core.Option.{Option, none, some, Option·map}
-use Prim.Native.Nat.{ℕ, zero, suc, _+_, _*_, _<_, _≤_}
+use Prim.Native.Nat.{ℕ, suc, _+_, _*_, _^_, _/_, _%_, _<_}
 use native.Mathlib.Omega.{arith}
 use lib.Dec.{T, eqb}
 use lib.ListN.{length, getD, set, replicate, getD-replicate, List·getD-map}
@@ -250,7 +250,7 @@ of-cond : {A B : Type 0} (f : A → B) (t : Bool) (x y : A) → f (cond t x y) �
 of-cond f true x y = refl
 of-cond f false x y = refl
 
-module _ (p : PowerOn) (past : List Call) (c : Call) (m : Machine) (h : History) (inv : Holds p past m h) where
+module _ (p : PowerOn) (past : List Call) (m : Machine) (h : History) (inv : Holds p past m h) where
   abbrev platform : Platform
   platform = m .platform
 
@@ -277,7 +277,7 @@ module _ (p : PowerOn) (past : List Call) (c : Call) (m : Machine) (h : History)
           processor = withCopyStatus 1 entry;
           platform = withBackup (holding (entry .key)) (withPending 1 (withValid 0 (withError 0 (withConsumed 0 platform))));
         } in
-        ap (λ (t : Bool). cond t failed done) (fails-told p past c m h (more-past p past c m h inv) q b (inv .givens))
+        ap (λ (t : Bool). cond t failed done) (fails-told p past reset m h (more-past p past reset m h inv) q b (inv .givens))
         ∙ cond-not (copiesOut past q h) failed done
 
     copy-in : copyIn entry platform
@@ -304,3 +304,212 @@ module _ (p : PowerOn) (past : List Call) (c : Call) (m : Machine) (h : History)
         go true true = ap (λ (x : Copied). x .processor .«copy_status») copy-out ∙ of-cond (λ (x : Copied). x .processor .«copy_status») (copiesOut past q h) _ _
         go true false = ap (λ (x : Copied). x .processor .«copy_status») copy-in ∙ of-cond (λ (x : Copied). x .processor .«copy_status») (isName (h .backup)) _ _
         go false o = refl
+
+    copied-valid : (address value : ℕ) → platform .valid ≡ cond (backedUp h) 1 0
+        → written address value entry platform .platform .valid
+        ≡ cond (backedUp (cond (bit 0 value) (cond (eqb address 0xD91) (copiedOut past q h) (gets q (h .backup) h)) h)) 1 0
+    unfolding copiedOut
+    copied-valid address value v = go (bit 0 value) (eqb address 0xD91)
+      where
+        out : (t : Bool) → cond t 0 (platform .valid) ≡ cond (backedUp (cond t (record { names = h .names; backup = some (nameAt q h); store = h .store; pending = 1 }) h)) 1 0
+        out true = refl
+        out false = v
+
+        got : (o : Option ℕ) → backedUp h ≡ backedUp (gets q o h)
+        got none = refl
+        got (some n) = refl
+
+        both : (t : Bool) (n : ℕ) → cond t n n ≡ n
+        both true n = refl
+        both false n = refl
+
+        go : (t o : Bool)
+            → cond {A = Copied} t (cond o (copyOut entry platform) (copyIn entry platform)) (record { processor = entry; platform = platform }) .platform .valid
+            ≡ cond (backedUp (cond t (cond o (copiedOut past q h) (gets q (h .backup) h)) h)) 1 0
+        go true true = ap (λ (x : Copied). x .platform .valid) copy-out ∙ of-cond (λ (x : Copied). x .platform .valid) (copiesOut past q h) _ _ ∙ out (copiesOut past q h)
+        go true false =
+            ap (λ (x : Copied). x .platform .valid) copy-in ∙ of-cond (λ (x : Copied). x .platform .valid) (isName (h .backup)) _ _ ∙ both (isName (h .backup)) (platform .valid) ∙ v ∙ ap (λ (t : Bool). cond t 1 0) (got (h .backup))
+        go false o = v
+
+  settled-valid : (code : ℕ) → Backups h → platform .valid ≡ cond (backedUp h) 1 0
+      → settled code platform .valid ≡ cond (backedUp (settledNames code h)) 1 0
+  unfolding settled settledNames
+  settled-valid code t v =
+      ap (λ (n : ℕ). cond (eqb n 1) (withPending 0 (withConsumed 1 took)) platform .valid) pending-told ∙ go (eqb (h .pending) 1) (eqb code 0) (t .pends)
+    where
+      took : Platform
+      took = cond (eqb code 0) (withStore (m .platform .backup) (withValid 1 (withError 0 (m .platform)))) (withStore absent (withValid 0 (withError 1 (m .platform))))
+
+      go : (t o : Bool) → (t ≡ true → isName (h .backup) ≡ true)
+          → cond t
+          (withPending 0 (withConsumed 1
+          (cond o (withStore (m .platform .backup) (withValid 1 (withError 0 (m .platform)))) (withStore absent (withValid 0 (withError 1 (m .platform)))))))
+          (m .platform)
+          .valid
+          ≡ cond (backedUp (cond t (record { names = h .names; backup = h .backup; store = cond o (h .backup) none; pending = 0 }) h)) 1 0
+      go true true n = sym (cond-on (n refl) 1 0)
+      go true false n = refl
+      go false o n = v
+
+  -- ---- every call
+
+  performed-valid : Backups h → platform .valid ≡ cond (backedUp h) 1 0 → (c : Call) → refusal (viewGiven p) c ≡ 0
+      → perform m c .machine .platform .valid ≡ cond (backedUp (moved p past c h)) 1 0
+  unfolding perform moved woken
+  performed-valid t v (step s) a =
+      on-cond (λ g. platform .valid ≡ cond (backedUp g) 1 0) (loads s) (renamed (s .processor) (suc (length past)) h) h (λ e. v) (λ e. v)
+  performed-valid t v (read r) a = v
+  performed-valid t v (write w) a =
+      copied-valid (w .processor) (processor-below (viewGiven p) (write w) (w .processor) a refl) (w .address) (w .value) v
+  performed-valid t v (settle s) a = settled-valid (s .code) t v
+  performed-valid t v (sleep s) a =
+      let calls = past ++ (sleep s ∷ []) in
+      ap (λ (t : Bool). cond t 1 0)
+      (named-slot calls (storeKept (s .code) platform) (nameKept (s .code) h) (λ j. performed-moved p past (sleep s) m h inv a .keys j .store))
+  performed-valid t v reset a = refl
+
+  few : (q : ℕ) → q < p .count → q < processorLimit
+  few q b = omega (arith, count-few m (inv .isValid), same-count p past m h inv)
+
+  module _ (w : WriteCall) (b : w .processor < p .count) where
+    abbrev own : Processor
+    own = written (w .address) (w .value) (processorAt m (w .processor)) platform .processor
+
+    -- the copy status of q after the write
+    abbrev Left : ℕ → Type 0
+    Left q =
+        getD (set (m .processors) (w .processor) own) q noProcessor .«copy_status» ≡ statusMoved past h q (write w) (processorAt m q .«copy_status»)
+
+    copy : ℕ → ℕ
+    copy q = cond (eqb (w .address) 0xD91) (cond (copiesOut past q h) 1 0) (cond (isName (h .backup)) 1 0)
+
+    written-own : Left (w .processor)
+    unfolding copy
+    written-own =
+        let i = w .processor in
+        ap (λ (e : Processor). e .«copy_status»)
+        (getD-set-same (m .processors) i own noProcessor (subst (λ (n : ℕ). i < n) (sym (inv .entries)) (few i b)))
+        ∙ copied-status i b (w .address) (w .value)
+        ∙ ap (λ (t : Bool). cond t (copy i) (processorAt m i .«copy_status»))
+        (sym (ap (λ (t : Bool). bit 0 (w .value) && t) (eq-eqb i i refl) ∙ and-true (bit 0 (w .value))))
+
+    written-other : (q : ℕ) → eqb (w .processor) q ≡ false → Left q
+    unfolding copy
+    written-other q e =
+        ap (λ (e : Processor). e .«copy_status») (getD-set-other (m .processors) (w .processor) q own noProcessor (λ r. eqb-false (w .processor) q e (sym r)))
+        ∙ sym
+        (cond-off (ap (λ (t : Bool). bit 0 (w .value) && t) e ∙ and-false (bit 0 (w .value))) (copy q) (processorAt m q .«copy_status»))
+
+    written-status : (q : ℕ) → Left q
+    written-status q = go (eqb (w .processor) q) refl
+      where
+        go : (t : Bool) → eqb (w .processor) q ≡ t → Left q
+        go true e = subst Left (eqb-true (w .processor) q e) written-own
+        go false e = written-other q e
+
+  performed-status : (q : ℕ) → q < p .count → (c : Call) → refusal (viewGiven p) c ≡ 0
+      → processorAt (perform m c .machine) q .«copy_status» ≡ statusMoved past h q c (processorAt m q .«copy_status»)
+  unfolding perform
+  performed-status q b (step s) a =
+      ap (λ (o : Outcome). processorAt (o .machine) q .«copy_status») (sym (call-performed m (step s) (number-told p past (step s) m h inv ∙ a)))
+      ∙ step-status m s q
+  performed-status q b (read r) a = refl
+  performed-status q b (write w) a = written-status w (processor-below (viewGiven p) (write w) (w .processor) a refl) q
+  performed-status q b (settle s) a = refl
+  performed-status q b (sleep s) a = ap (λ (e : Processor). e .«copy_status») (getD-replicate processorLimit q zeroProcessor noProcessor (few q b))
+  performed-status q b reset a = ap (λ (e : Processor). e .«copy_status») (getD-replicate processorLimit q zeroProcessor noProcessor (few q b))
+
+-- ---- every list
+
+status-run : (p : PowerOn) (past calls : List Call) (m : Machine) (h : History) → Holds p past m h → (q : ℕ) → q < p .count
+    → processorAt (run m calls .machine) q .«copy_status» ≡ statusFrom p past h q (processorAt m q .«copy_status») calls
+status-run p past [] m h inv q b = refl
+status-run p past (c ∷ calls) m h inv q b =
+    let old = processorAt m q .«copy_status» in
+    status-run p (past ++ (c ∷ [])) calls (call m c .machine) (next p past c h) (holds-next p past c m h inv) q b
+    ∙ ap (λ (n : ℕ). statusFrom p (past ++ (c ∷ [])) (next p past c h) q n calls)
+    (by-refusal p past c m h inv (λ n t. processorAt n q .«copy_status» ≡ cond t (statusMoved past h q c old) old)
+    (performed-status p past m h inv q b c) refl)
+
+valid-run : (p : PowerOn) (past calls : List Call) (m : Machine) (h : History) → Holds p past m h → Backups h → m .platform .valid ≡ cond (backedUp h) 1 0
+    → run m calls .machine .platform .valid ≡ cond (backedUp (historyFrom p past h calls)) 1 0
+valid-run p past [] m h inv t v = v
+valid-run p past (c ∷ calls) m h inv t v =
+    valid-run p (past ++ (c ∷ [])) calls (call m c .machine) (next p past c h) (holds-next p past c m h inv) (next-backups p past h t c)
+    (by-refusal p past c m h inv (λ n t. n .platform .valid ≡ cond (backedUp (cond t (moved p past c h) h)) 1 0) (performed-valid p past m h inv t v c) v)
+
+module _ (p : PowerOn) (ok : powerOn p .answer .number ≡ 0) (calls : List Call) where
+  abbrev begun : Holds p [] (powerOn p .machine) (atFirst p)
+  begun = power-on-holds p ok
+
+  abbrev start : powerOn p .machine ≡ fresh (p .count) (p .features)
+  start = power-on-valid p ok .0
+
+  -- the copy status of every processor
+  pub status-kept : (q : ℕ) → q < p .count → processorAt (run (powerOn p .machine) calls .machine) q .«copy_status» ≡ copyStatus p calls q
+  status-kept q b =
+      status-run p [] calls (powerOn p .machine) (atFirst p) begun q b
+      ∙ ap (λ (n : ℕ). statusFrom p [] (atFirst p) q n calls)
+      (ap (λ (m : Machine). processorAt m q .«copy_status») start
+      ∙ ap (λ (e : Processor). e .«copy_status»)
+      (getD-replicate processorLimit q zeroProcessor noProcessor (few p [] (powerOn p .machine) (atFirst p) begun q b)))
+
+  -- valid
+  pub valid-kept : run (powerOn p .machine) calls .machine .platform .valid ≡ cond (backedUp (history p calls)) 1 0
+  valid-kept =
+      valid-run p [] calls (powerOn p .machine) (atFirst p) begun (backups p []) (ap (λ (m : Machine). m .platform .valid) start)
+
+-- ---- what reads answer
+
+bit-0 : (t : Bool) (error consumed : ℕ) → bit 0 (cond t 1 0 + 4 * error + 8 * consumed) ≡ t
+bit-0 true error consumed = eq-eqb ((1 + 4 * error + 8 * consumed) / 2 ^ 0 % 2) 1 (omega arith)
+bit-0 false error consumed = ne-eqb ((0 + 4 * error + 8 * consumed) / 2 ^ 0 % 2) 1 (λ e. omega arith)
+
+module _ (p : PowerOn) (ok : powerOn p .answer .number ≡ 0) (xs : List Call) (c : ReadCall) (ys : List Call)
+    (zero : answerAt (run (powerOn p .machine) (xs ++ read c ∷ ys)) (length xs) .number ≡ 0) where
+  abbrev reached : Machine
+  reached = run (powerOn p .machine) xs .machine
+
+  read-zero : call reached (read c) .answer .number ≡ 0
+  read-zero = ap (λ (a : Answer). a .number) (sym (answer-at (powerOn p .machine) xs (read c) ys)) ∙ zero
+
+  read-below : c .processor < p .count
+  read-below =
+      processor-below (viewGiven p) (read c) (c .processor) (not-refused p (powerOn p .machine) (power-on-holds p ok) xs (read c) read-zero) refl
+
+  read-value : answerAt (run (powerOn p .machine) (xs ++ read c ∷ ys)) (length xs) .value
+      ≡ registerRead (c .address) (processorAt reached (c .processor)) (reached .platform)
+  unfolding perform
+  read-value =
+      ap (λ (a : Answer). a .value) (answer-at (powerOn p .machine) xs (read c) ys)
+      ∙ ap (λ (o : Outcome). o .answer .value) (was-performed p (powerOn p .machine) (power-on-holds p ok) xs (read c) read-zero)
+
+  read-copy-status : c .address ≡ 0x990
+      → answerAt (run (powerOn p .machine) (xs ++ read c ∷ ys)) (length xs) .value ≡ copyStatus p xs (c .processor)
+  read-copy-status e =
+      read-value ∙ ap (λ (n : ℕ). registerRead n (processorAt reached (c .processor)) (reached .platform)) e
+      ∙ status-kept p ok xs (c .processor) read-below
+
+  read-valid : c .address ≡ 0x991
+      → bit 0 (answerAt (run (powerOn p .machine) (xs ++ read c ∷ ys)) (length xs) .value) ≡ backedUp (history p xs)
+  read-valid e =
+      let f = reached .platform in
+      ap (bit 0)
+      (read-value ∙ ap (λ (n : ℕ). registerRead n (processorAt reached (c .processor)) f) e
+      ∙ ap (λ (n : ℕ). n + 4 * f .error + 8 * f .consumed) (valid-kept p ok xs))
+      ∙ bit-0 (backedUp (history p xs)) (f .error) (f .consumed)
+
+pub status-registers : (p : PowerOn) → powerOn p .answer .number ≡ 0 → (calls : List Call) → StatusRegisters p calls (run (powerOn p .machine) calls)
+status-registers p ok calls =
+    record {
+      copyStatusRead =
+          λ xs c ys split.
+          subst (λ (l : List Call). answerAt (run (powerOn p .machine) l) (length xs) .number ≡ 0 → c .address ≡ 0x990
+          → answerAt (run (powerOn p .machine) l) (length xs) .value ≡ copyStatus p xs (c .processor)) (sym split)
+          (read-copy-status p ok xs c ys);
+      validRead =
+          λ xs c ys split.
+          subst (λ (l : List Call). answerAt (run (powerOn p .machine) l) (length xs) .number ≡ 0 → c .address ≡ 0x991
+          → bit 0 (answerAt (run (powerOn p .machine) l) (length xs) .value) ≡ backedUp (history p xs)) (sym split)
+          (read-valid p ok xs c ys);
+    }
