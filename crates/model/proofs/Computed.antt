@@ -37,11 +37,11 @@ abbrev pub sleeping : ℕ → Call
 sleeping code = sleep (record { code = code })
 
 -- key 1 in backup and store
-abbrev stored : List Call
+abbrev pub stored : List Call
 stored = load 0 0 [] 1 ∷ out 0 ∷ settling 0 ∷ []
 
 -- key 2 in the backup, pending, and key 1 in the store
-abbrev pending : List Call
+abbrev pub pending : List Call
 pending = stored ++ load 0 0 [] 2 ∷ out 0 ∷ []
 
 abbrev lists : List (List Call)
