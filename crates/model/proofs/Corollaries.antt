@@ -15,7 +15,7 @@ use Rattle.model.specs.Numbers.{bit}
 use Rattle.model.specs.Calls.{PowerOn, Call, step, read, write, settle, sleep, reset}
 use Rattle.model.specs.Refusals.{refusal}
 use Rattle.model.specs.Execution.{run, powerOn}
-use Rattle.model.specs.History.{History, atFirst, viewGiven, noBackupIn, noBackupOf, nameAt, renamed, loads, copiedOut, gets, settledNames, nameKept, moved, next, historyFrom, history}
+use Rattle.model.specs.History.{History, atFirst, viewGiven, noBackupIn, noBackupOf, nameAt, renamed, loads, sent, copiedOut, gets, settledNames, nameKept, moved, next, historyFrom, history}
 use Rattle.model.specs.Demand3.{allOf, orNone, nowhere}
 use Rattle.model.proofs.Lists.{all-at, all-set, all-replicate, all-more}
 use Rattle.model.proofs.Histories.{call-more, none-more, every-parts, every-of, numbers-run}
@@ -67,7 +67,7 @@ module _ (p : PowerOn) (past : List Call) (f g f′ g′ : ℕ → Bool) (s : St
       let n = nameAt q h in
       let a = eqb (h .pending) 0 in
       let b = eqb (noBackupOf past n) 0 in
-      on-cond (Pass f′ g′) (a && b) (record { names = h .names; backup = some n; store = h .store; pending = 1 }) h
+      on-cond (Pass f′ g′) (a && b) (sent q h) h
       (λ e.
       record {
         names = kept .names;

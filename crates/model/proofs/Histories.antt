@@ -22,7 +22,7 @@ use Rattle.model.specs.Execution.{zeroPlatform, fresh, viewOf, perform, 
 use Rattle.model.specs.Calls.{PowerOn, StepCall, WriteCall, Call, step, read, write, settle, sleep, reset}
 use Rattle.model.specs.Validity.{valid}
 use Rattle.model.specs.Refusals.{View, refusal}
-use Rattle.model.specs.History.{History, atFirst, viewGiven, callAt, noBackupIn, noBackupOf, loadIn, makes, keyMade, keyIn, keyOf, nameAt, renamed, loads, copiedOut, gets, settledNames, nameKept, wokenNames, moved, next, historyFrom, history, refusals}
+use Rattle.model.specs.History.{History, atFirst, viewGiven, callAt, noBackupIn, noBackupOf, loadIn, makes, keyMade, keyIn, keyOf, nameAt, renamed, loads, copiesOut, sent, copiedOut, gets, settledNames, nameKept, wokenNames, moved, next, historyFrom, history, refusals}
 use Rattle.model.specs.Demand3.{Holding, slotKey, held, named, loadsKey, given, allOf, orNone, everyName}
 use Rattle.model.specs.declared.IwKey.{IwKey}
 use Rattle.model.specs.declared.Processor.{Processor}
@@ -330,8 +330,7 @@ module _ (p : PowerOn) (past : List Call) (c : Call) (m : Machine) (h : History)
       pending-told : m .platform .pending ≡ h .pending
       pending-told = λ j. inv .keys j .pending
 
-      pub fails-told : (eqb (entry .key .«no_backup») 1 || eqb (m .platform .pending) 1)
-          ≡ not (eqb (h .pending) 0 && eqb (noBackupOf past (nameAt q h)) 0)
+      pub fails-told : (eqb (entry .key .«no_backup») 1 || eqb (m .platform .pending) 1) ≡ not (copiesOut past q h)
       fails-told =
           let n = noBackupOf past (nameAt q h) in
           ap₂ (λ (x y : ℕ). eqb x 1 || eqb y 1) no-backup-told pending-told
@@ -355,10 +354,9 @@ module _ (p : PowerOn) (past : List Call) (c : Call) (m : Machine) (h : History)
           (λ (t : Bool).
           Moved p calls
           (after (cond t (record { processor = withCopyStatus 0 entry; platform = m .platform }) (record { processor = withCopyStatus 1 entry; platform = out })))
-          (cond (eqb (h .pending) 0 && eqb (noBackupOf past (nameAt q h)) 0)
-          (record { names = h .names; backup = some (nameAt q h); store = h .store; pending = 1 }) h))
+          (cond (copiesOut past q h) (sent q h) h))
           (sym fails-told)
-          (go (eqb (h .pending) 0 && eqb (noBackupOf past (nameAt q h)) 0))
+          (go (copiesOut past q h))
         where
           out : Platform
           out = withBackup (holding (entry .key)) (withPending 1 (withValid 0 (withError 0 (withConsumed 0 (m .platform)))))
@@ -367,7 +365,7 @@ module _ (p : PowerOn) (past : List Call) (c : Call) (m : Machine) (h : History)
               → Moved p calls
               (after (cond (not t) (record { processor = withCopyStatus 0 entry; platform = m .platform })
               (record { processor = withCopyStatus 1 entry; platform = out })))
-              (cond t (record { names = h .names; backup = some (nameAt q h); store = h .store; pending = 1 }) h)
+              (cond t (sent q h) h)
           go true =
               let x = withCopyStatus 1 entry in
               moved-to (set (m .processors) q x) (length-set (m .processors) q x ∙ inv .entries) (h .names) (inv .names)

@@ -9,6 +9,8 @@ pub mod Histories
 pub mod Demand3
 pub mod Corollaries
 pub mod Status
+pub mod Registers
+pub mod Operator
 pub mod Bytes
 pub mod Shapes
 pub mod Lent

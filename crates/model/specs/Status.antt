@@ -26,13 +26,16 @@ accepted p c = eqb (refusal (viewGiven p) c) 0
 
 -- ---- copy status
 
--- what a call does to the copy status of processor q, from the names just before it. A copy on q sets it: to 1 where nothing is pending and the name has
--- no NoBackup (out), where the backup is a name (in), and else to 0. Sleep and reset set it to 0. No other call touches it.
+-- a copy succeeds: out where nothing is pending and the processor's name has no NoBackup, in where the backup is a name
+abbrev pub copies : List Call → WriteCall → History → Bool
+copies past w h = cond (eqb (w .address) 0xD91) (copiesOut past (w .processor) h) (isName (h .backup))
+
+-- what a call does to the copy status of processor q, from the names just before it: a copy on q sets it, to 1 where it succeeds and else to 0; sleep and
+-- reset set it to 0; no other call touches it
 abbrev pub statusMoved : List Call → History → ℕ → Call → ℕ → ℕ
 statusMoved past h q (step s) old = old
 statusMoved past h q (read r) old = old
-statusMoved past h q (write w) old =
-    cond (bit 0 (w .value) && eqb (w .processor) q) (cond (eqb (w .address) 0xD91) (cond (copiesOut past q h) 1 0) (cond (isName (h .backup)) 1 0)) old
+statusMoved past h q (write w) old = cond (bit 0 (w .value) && eqb (w .processor) q) (cond (copies past w h) 1 0) old
 statusMoved past h q (settle s) old = old
 statusMoved past h q (sleep s) old = 0
 statusMoved past h q reset old = 0
