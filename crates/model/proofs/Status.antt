@@ -18,7 +18,7 @@ use Rattle.model.specs.Refusals.{tests, refusal}
 use Rattle.model.specs.History.{History, atFirst, nameAt, renamed, loads, copiesOut, sent, copiedOut, gets, settledNames, nameKept, moved, next, historyFrom, history}
 use Rattle.model.specs.Status.{isName, accepted, copies, statusMoved, statusNext, statusFrom, copyStatus, noCopyOn, statusLeft, backedUp}
 use Rattle.model.proofs.Corollaries.{along, history-append}
-use Rattle.model.proofs.Computed.{two, load, out, sleeping, pending}
+use Rattle.model.proofs.Computed.{two, sleeping, pending, outOnly}
 
 -- ---- a call after a list
 
@@ -228,9 +228,6 @@ unfolding refusal tests moved copiedOut settledNames decodeAt modrmOf instructio
 pending-older = (refl, refl, refl)
 
 -- or none
-abbrev pub outOnly : List Call
-outOnly = load 0 0 [] 1 ∷ out 0 ∷ []
-
 pub pending-none : (copyStatus two outOnly 0 ≡ 1) × (history two outOnly ≡ record { names = 1 ∷ 0 ∷ []; backup = some 1; store = none; pending = 1 })
     × (_≡_ {A = Option ℕ} (history two (outOnly ++ sleeping 0 ∷ []) .backup) none)
 unfolding refusal tests moved copiedOut settledNames decodeAt modrmOf instructionOf
