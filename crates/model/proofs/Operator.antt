@@ -25,7 +25,7 @@ use Rattle.model.specs.Demand3.{held, answerAt, Demand3}
 use Rattle.model.specs.Status.{accepted, copyStatus, StatusRegisters, leaves, undisturbed, ruleCalls, OperatorRule}
 use Rattle.model.specs.declared.IwKey.{IwKey}
 use Rattle.model.proofs.Corollaries.{history-append}
-use Rattle.model.proofs.Computed.{two, load, settling}
+use Rattle.model.proofs.Computed.{two, load, out, settling, outOnly}
 use Rattle.model.proofs.Status.{status-out, valid-backup}
 
 -- ---- undisturbed calls
@@ -195,3 +195,12 @@ rule-met =
       validTold = refl;
       isValid = refl;
     }
+
+-- and one that does not: a copy out of another processor succeeded, and the store has that one's name
+abbrev otherOut : List Call
+otherOut = settling 0 ∷ load 1 0 [] 2 ∷ out 1 ∷ settling 0 ∷ []
+
+pub rule-not-met : (undisturbed two outOnly (history two outOnly) 0 otherOut ≡ false)
+    × (history two (outOnly ++ otherOut) ≡ record { names = 1 ∷ 4 ∷ []; backup = some 4; store = some 4; pending = 0 })
+unfolding refusal tests moved copiedOut settledNames decodeAt modrmOf instructionOf
+rule-not-met = (refl, refl)
