@@ -1,8 +1,8 @@
--- Demand 3's part on keys, computed: lists that have each rule of the history machine at work, and one of them down to the keys. An edit that breaks a rule
--- is refused by a value.
+-- Demand 3's part on keys, copy status and valid, computed: lists that have each rule of the history machine at work, and one of them down to the keys. An
+-- edit that breaks a rule is refused by a value.
 -- Assumes nothing.
 use mathlib.Core.Path.{_≡_, refl}
-use mathlib.Core.Bool.{true, false}
+use mathlib.Core.Bool.{Bool, true, false}
 use mathlib.Core.List.{List, [], _∷_, _++_, map}
 use mathlib.Core.Option.{Option, none, some}
 use Prim.Native.Nat.{ℕ}
@@ -17,6 +17,7 @@ use Rattle.model.specs.Instructions.{loadedKey}
 use Rattle.model.specs.Execution.{run, powerOn}
 use Rattle.model.specs.History.{History, copiedOut, settledNames, moved, history}
 use Rattle.model.specs.Demand3.{Holding, held, named, given}
+use Rattle.model.specs.Status.{copyStatus, backedUp}
 use Rattle.model.specs.Examples.{rax, onProcessor, loadIwKey}
 use Rattle.model.specs.declared.IwKey.{IwKey}
 use Rattle.model.specs.declared.Processor.{Processor}
@@ -44,51 +45,73 @@ abbrev pub sleeping : ℕ → Call
 sleeping code = sleep (record { code = code })
 
 -- key 1 in backup and store
-abbrev stored : List Call
+abbrev pub stored : List Call
 stored = load 0 0 [] 1 ∷ out 0 ∷ settling 0 ∷ []
 
 -- key 4 in the backup, pending, and key 1 in the store
 abbrev pub pending : List Call
 pending = stored ++ load 0 0 [] 2 ∷ out 0 ∷ []
 
+-- key 1 in the backup, pending, and no store
+abbrev pub outOnly : List Call
+outOnly = load 0 0 [] 1 ∷ out 0 ∷ []
+
 -- ---- the names
 
--- a list of calls, and the history that it has to leave: names of the two processors, backup, store, pending
+-- what a list of calls has to leave: the history, the copy status of both processors, and valid
+record Left : Type 0 where
+  names : History
+  copyStatuses : List ℕ
+  isValid : Bool
+
 record Line : Type 0 where
   calls : List Call
-  left : History
+  left : Left
 
-abbrev line : List Call → ℕ → ℕ → Option ℕ → Option ℕ → ℕ → Line
-line calls a b backup store pending =
-    record { calls = calls; left = record { names = a ∷ b ∷ []; backup = backup; store = store; pending = pending } }
+-- names of the two processors, backup, store, pending; the two copy statuses; valid
+abbrev line : List Call → ℕ → ℕ → Option ℕ → Option ℕ → ℕ → ℕ → ℕ → Bool → Line
+line calls a b backup store pending s t valid =
+    record {
+      calls = calls;
+      left =
+          record {
+            names = record { names = a ∷ b ∷ []; backup = backup; store = store; pending = pending };
+            copyStatuses = s ∷ t ∷ [];
+            isValid = valid;
+          };
+    }
 
 abbrev lines : List Line
 lines =
     -- a load with random data, and one that is not ready
-    line (load 0 2 (replicate 48 0x5A) 1 ∷ []) 1 0 none none 0
-    ∷ line (load 0 0 [] 1 ∷ load 0 2 [] 2 ∷ []) 1 0 none none 0
+    line (load 0 2 (replicate 48 0x5A) 1 ∷ []) 1 0 none none 0 0 0 false
+    ∷ line (load 0 0 [] 1 ∷ load 0 2 [] 2 ∷ []) 1 0 none none 0 0 0 false
     -- a copy out at NoBackup, while pending, and once more when settled
-    ∷ line (load 0 1 [] 1 ∷ out 0 ∷ []) 1 0 none none 0
-    ∷ line (pending ++ load 0 0 [] 3 ∷ out 0 ∷ []) 6 0 (some 4) (some 1) 1
-    ∷ line pending 4 0 (some 4) (some 1) 1
+    ∷ line (load 0 1 [] 1 ∷ out 0 ∷ []) 1 0 none none 0 0 0 false
+    ∷ line (pending ++ load 0 0 [] 3 ∷ out 0 ∷ []) 6 0 (some 4) (some 1) 1 0 0 false
+    ∷ line pending 4 0 (some 4) (some 1) 1 1 0 false
     -- a copy in without backup, over a key with NoBackup, and once more
-    ∷ line (load 0 0 [] 1 ∷ into 0 ∷ []) 1 0 none none 0
-    ∷ line (stored ++ load 1 1 [] 2 ∷ into 1 ∷ []) 1 1 (some 1) (some 1) 0
-    ∷ line (stored ++ into 1 ∷ load 0 0 [] 2 ∷ out 0 ∷ into 1 ∷ []) 5 5 (some 5) (some 1) 1
+    ∷ line (load 0 0 [] 1 ∷ into 0 ∷ []) 1 0 none none 0 0 0 false
+    ∷ line (stored ++ load 1 1 [] 2 ∷ into 1 ∷ []) 1 1 (some 1) (some 1) 0 1 1 true
+    ∷ line (stored ++ into 1 ∷ load 0 0 [] 2 ∷ out 0 ∷ into 1 ∷ []) 5 5 (some 5) (some 1) 1 1 1 false
     -- settled good and bad
-    ∷ line (pending ++ settling 0 ∷ []) 4 0 (some 4) (some 4) 0
-    ∷ line (pending ++ settling 1 ∷ []) 4 0 (some 4) none 0
+    ∷ line (pending ++ settling 0 ∷ []) 4 0 (some 4) (some 4) 0 1 0 true
+    ∷ line (pending ++ settling 1 ∷ []) 4 0 (some 4) none 0 1 0 false
     -- woken with the old store, the new one and junk, pending and not
-    ∷ line (pending ++ sleeping 0 ∷ []) 0 0 (some 1) (some 1) 0
-    ∷ line (pending ++ sleeping 1 ∷ []) 0 0 (some 4) (some 4) 0
-    ∷ line (pending ++ sleeping 2 ∷ []) 0 0 none none 0
-    ∷ line (stored ++ sleeping 1 ∷ []) 0 0 (some 1) (some 1) 0
-    ∷ line (stored ++ sleeping 2 ∷ []) 0 0 none none 0
+    ∷ line (outOnly ++ sleeping 0 ∷ []) 0 0 none none 0 0 0 false
+    ∷ line (pending ++ sleeping 0 ∷ []) 0 0 (some 1) (some 1) 0 0 0 true
+    ∷ line (pending ++ sleeping 1 ∷ []) 0 0 (some 4) (some 4) 0 0 0 true
+    ∷ line (pending ++ sleeping 2 ∷ []) 0 0 none none 0 0 0 false
+    ∷ line (stored ++ sleeping 1 ∷ []) 0 0 (some 1) (some 1) 0 0 0 true
+    ∷ line (stored ++ sleeping 2 ∷ []) 0 0 none none 0 0 0 false
     -- reset
-    ∷ line (stored ++ reset ∷ []) 0 0 none none 0
+    ∷ line (stored ++ reset ∷ []) 0 0 none none 0 0 0 false
     ∷ []
 
-pub names-computed : map (λ l. history two (l .calls)) lines ≡ map (λ l. l .left) lines
+abbrev left : List Call → Left
+left l = record { names = history two l; copyStatuses = copyStatus two l 0 ∷ copyStatus two l 1 ∷ []; isValid = backedUp (history two l) }
+
+pub names-computed : map (λ l. left (l .calls)) lines ≡ map (λ l. l .left) lines
 unfolding refusal tests moved copiedOut settledNames decodeAt modrmOf instructionOf
 names-computed = refl
 

@@ -15,7 +15,7 @@ use Rattle.model.specs.Numbers.{bit}
 use Rattle.model.specs.Calls.{PowerOn, Call, step, read, write, settle, sleep, reset}
 use Rattle.model.specs.Refusals.{refusal}
 use Rattle.model.specs.Execution.{run, powerOn}
-use Rattle.model.specs.History.{History, atFirst, viewGiven, noBackupIn, noBackupOf, nameAt, renamed, loads, copiedOut, gets, settledNames, nameKept, moved, next, historyFrom, history}
+use Rattle.model.specs.History.{History, atFirst, viewGiven, noBackupIn, noBackupOf, nameAt, renamed, loads, sent, copiedOut, gets, settledNames, nameKept, moved, next, historyFrom, history}
 use Rattle.model.specs.Demand3.{allOf, orNone, nowhere}
 use Rattle.model.proofs.Lists.{all-at, all-set, all-replicate, all-more}
 use Rattle.model.proofs.Histories.{call-more, none-more, every-parts, every-of, numbers-run}
@@ -67,7 +67,7 @@ module _ (p : PowerOn) (past : List Call) (f g f′ g′ : ℕ → Bool) (s : St
       let n = nameAt q h in
       let a = eqb (h .pending) 0 in
       let b = eqb (noBackupOf past n) 0 in
-      on-cond (Pass f′ g′) (a && b) (record { names = h .names; backup = some n; store = h .store; pending = 1 }) h
+      on-cond (Pass f′ g′) (a && b) (sent q h) h
       (λ e.
       record {
         names = kept .names;
@@ -122,14 +122,14 @@ module _ (p : PowerOn) (past : List Call) (f g f′ g′ : ℕ → Bool) (s : St
 -- ---- lists
 
 -- what every call keeps
-along : (p : PowerOn) (P : List Call → History → Type 0) → ((past : List Call) (c : Call) (h : History) → P past h → P (past ++ (c ∷ [])) (next p past c h))
+pub along : (p : PowerOn) (P : List Call → History → Type 0) → ((past : List Call) (c : Call) (h : History) → P past h → P (past ++ (c ∷ [])) (next p past c h))
     → (past calls : List Call) (h : History) → P past h → P (past ++ calls) (historyFrom p past h calls)
 along p P s past [] h t = subst (λ (l : List Call). P l h) (sym (append-nil past)) t
 along p P s past (c ∷ calls) h t =
     subst (λ (l : List Call). P l (historyFrom p past h (c ∷ calls))) (append-snoc past c calls)
     (along p P s (past ++ (c ∷ [])) calls (next p past c h) (s past c h t))
 
-history-append : (p : PowerOn) (past xs ys : List Call) (h : History)
+pub history-append : (p : PowerOn) (past xs ys : List Call) (h : History)
     → historyFrom p past h (xs ++ ys) ≡ historyFrom p (past ++ xs) (historyFrom p past h xs) ys
 history-append p past [] ys h = ap (λ (l : List Call). historyFrom p l h ys) (sym (append-nil past))
 history-append p past (c ∷ xs) ys h =

@@ -145,14 +145,14 @@ module _ (p : PowerOn) (m : Machine) (first : Holds p [] m (atFirst p)) where
   abbrev machineAfter : List Call → Machine
   machineAfter xs = run m xs .machine
 
-  holds : (xs : List Call) → Holds p xs (machineAfter xs) (history p xs)
+  pub holds : (xs : List Call) → Holds p xs (machineAfter xs) (history p xs)
   holds xs = holds-run p [] xs m (atFirst p) first
 
   module _ (xs : List Call) (c : Call) (zero : call (machineAfter xs) c .answer .number ≡ 0) where
-    not-refused : refusal (viewGiven p) c ≡ 0
+    pub not-refused : refusal (viewGiven p) c ≡ 0
     not-refused = sym (number-told p xs c (machineAfter xs) (history p xs) (holds xs)) ∙ sym (call-number (machineAfter xs) c) ∙ zero
 
-    was-performed : call (machineAfter xs) c ≡ perform (machineAfter xs) c
+    pub was-performed : call (machineAfter xs) c ≡ perform (machineAfter xs) c
     was-performed = call-performed (machineAfter xs) c (sym (call-number (machineAfter xs) c) ∙ zero)
 
   -- the CPU record after a step: under the key that the history names

@@ -22,7 +22,7 @@ use Rattle.model.specs.Execution.{zeroPlatform, fresh, viewOf, perform, 
 use Rattle.model.specs.Calls.{PowerOn, StepCall, WriteCall, Call, step, read, write, settle, sleep, reset}
 use Rattle.model.specs.Validity.{valid}
 use Rattle.model.specs.Refusals.{View, refusal}
-use Rattle.model.specs.History.{History, atFirst, viewGiven, callAt, noBackupIn, noBackupOf, loadIn, makes, keyMade, keyIn, keyOf, nameAt, renamed, loads, copiedOut, gets, settledNames, nameKept, wokenNames, moved, next, historyFrom, history, refusals}
+use Rattle.model.specs.History.{History, atFirst, viewGiven, callAt, noBackupIn, noBackupOf, loadIn, makes, keyMade, keyIn, keyOf, nameAt, renamed, loads, copiesOut, sent, copiedOut, gets, settledNames, nameKept, wokenNames, moved, next, historyFrom, refusals}
 use Rattle.model.specs.Demand3.{Holding, slotKey, held, named, loadsKey, given, allOf, orNone, everyName}
 use Rattle.model.specs.declared.IwKey.{IwKey}
 use Rattle.model.specs.declared.Processor.{Processor}
@@ -195,20 +195,20 @@ pub record Holds (p : PowerOn) (past : List Call) (m : Machine) (h : History) : 
   pub givens : T (everyName (given p past) h)
 
 -- what has to be shown after a move
-record Moved (p : PowerOn) (calls : List Call) (m : Machine) (h : History) : Type 0 where
-  entries : length (m .processors) ≡ processorLimit
-  names : length (h .names) ≡ p .count
-  keys : held m ≡ named calls h
-  givens : T (everyName (given p calls) h)
+pub record Moved (p : PowerOn) (calls : List Call) (m : Machine) (h : History) : Type 0 where
+  pub entries : length (m .processors) ≡ processorLimit
+  pub names : length (h .names) ≡ p .count
+  pub keys : held m ≡ named calls h
+  pub givens : T (everyName (given p calls) h)
 
-slot-none : (s : Slot) → _≡_ {A = Option IwKey} (slotKey s) none → eqb (s .present) 1 ≡ false
+pub slot-none : (s : Slot) → _≡_ {A = Option IwKey} (slotKey s) none → eqb (s .present) 1 ≡ false
 slot-none s q = go (eqb (s .present) 1) q
   where
     go : (t : Bool) → _≡_ {A = Option IwKey} (cond t (some (s .key)) none) none → t ≡ false
     go true q = absurd (Option·some-ne-none (s .key) q)
     go false q = refl
 
-slot-some : (s : Slot) (k : IwKey) → _≡_ {A = Option IwKey} (slotKey s) (some k) → (eqb (s .present) 1 ≡ true) × (s .key ≡ k)
+pub slot-some : (s : Slot) (k : IwKey) → _≡_ {A = Option IwKey} (slotKey s) (some k) → (eqb (s .present) 1 ≡ true) × (s .key ≡ k)
 slot-some s k q = go (eqb (s .present) 1) q
   where
     go : (t : Bool) → _≡_ {A = Option IwKey} (cond t (some (s .key)) none) (some k) → (t ≡ true) × (s .key ≡ k)
@@ -217,7 +217,7 @@ slot-some s k q = go (eqb (s .present) 1) q
 
 -- each processor's IWKey is its name's key
 module _ (p : PowerOn) (calls : List Call) (m : Machine) (h : History) (inv : Holds p calls m h) where
-  same-count : m .count ≡ p .count
+  pub same-count : m .count ≡ p .count
   same-count = ap (λ (v : View). v .count) (inv .view)
 
   processors-named : map (λ (e : Processor). e .key) (take (m .count) (m .processors)) ≡ map (keyOf calls) (h .names)
@@ -330,8 +330,7 @@ module _ (p : PowerOn) (past : List Call) (c : Call) (m : Machine) (h : History)
       pending-told : m .platform .pending ≡ h .pending
       pending-told = λ j. inv .keys j .pending
 
-      fails-told : (eqb (entry .key .«no_backup») 1 || eqb (m .platform .pending) 1)
-          ≡ not (eqb (h .pending) 0 && eqb (noBackupOf past (nameAt q h)) 0)
+      pub fails-told : (eqb (entry .key .«no_backup») 1 || eqb (m .platform .pending) 1) ≡ not (copiesOut past q h)
       fails-told =
           let n = noBackupOf past (nameAt q h) in
           ap₂ (λ (x y : ℕ). eqb x 1 || eqb y 1) no-backup-told pending-told
@@ -355,10 +354,9 @@ module _ (p : PowerOn) (past : List Call) (c : Call) (m : Machine) (h : History)
           (λ (t : Bool).
           Moved p calls
           (after (cond t (record { processor = withCopyStatus 0 entry; platform = m .platform }) (record { processor = withCopyStatus 1 entry; platform = out })))
-          (cond (eqb (h .pending) 0 && eqb (noBackupOf past (nameAt q h)) 0)
-          (record { names = h .names; backup = some (nameAt q h); store = h .store; pending = 1 }) h))
+          (cond (copiesOut past q h) (sent q h) h))
           (sym fails-told)
-          (go (eqb (h .pending) 0 && eqb (noBackupOf past (nameAt q h)) 0))
+          (go (copiesOut past q h))
         where
           out : Platform
           out = withBackup (holding (entry .key)) (withPending 1 (withValid 0 (withError 0 (withConsumed 0 (m .platform)))))
@@ -367,7 +365,7 @@ module _ (p : PowerOn) (past : List Call) (c : Call) (m : Machine) (h : History)
               → Moved p calls
               (after (cond (not t) (record { processor = withCopyStatus 0 entry; platform = m .platform })
               (record { processor = withCopyStatus 1 entry; platform = out })))
-              (cond t (record { names = h .names; backup = some (nameAt q h); store = h .store; pending = 1 }) h)
+              (cond t (sent q h) h)
           go true =
               let x = withCopyStatus 1 entry in
               moved-to (set (m .processors) q x) (length-set (m .processors) q x ∙ inv .entries) (h .names) (inv .names)
@@ -518,7 +516,7 @@ module _ (p : PowerOn) (past : List Call) (c : Call) (m : Machine) (h : History)
 -- ---- every call
 
 -- the call is added to those past: nothing has moved yet
-more-past : (p : PowerOn) (past : List Call) (c : Call) (m : Machine) (h : History) → Holds p past m h → Holds p (past ++ (c ∷ [])) m h
+pub more-past : (p : PowerOn) (past : List Call) (c : Call) (m : Machine) (h : History) → Holds p past m h → Holds p (past ++ (c ∷ [])) m h
 more-past p past c m h inv =
     record {
       isValid = inv .isValid;
@@ -529,7 +527,7 @@ more-past p past c m h inv =
       givens = every-more (given p past) (given p (past ++ (c ∷ []))) (given-more p past (c ∷ [])) h (inv .givens);
     }
 
-performed-moved : (p : PowerOn) (past : List Call) (c : Call) (m : Machine) (h : History) → Holds p past m h → refusal (viewGiven p) c ≡ 0
+pub performed-moved : (p : PowerOn) (past : List Call) (c : Call) (m : Machine) (h : History) → Holds p past m h → refusal (viewGiven p) c ≡ 0
     → Moved p (past ++ (c ∷ [])) (perform m c .machine) (moved p past c h)
 unfolding perform moved
 performed-moved p past (step s) m h inv a =
@@ -552,19 +550,19 @@ module _ (p : PowerOn) (past : List Call) (c : Call) (m : Machine) (h : History)
   pub number-told : numberOf m c ≡ refusal (viewGiven p) c
   number-told = valid-number m c (inv .isValid) ∙ ap (λ (v : View). refusal v c) (inv .view)
 
+  -- a property of the machine after the call, by the two ways of the history machine
+  pub by-refusal : (P : Machine → Bool → Type 0) → (refusal (viewGiven p) c ≡ 0 → P (perform m c .machine) true) → P m false
+      → P (call m c .machine) (eqb (refusal (viewGiven p) c) 0)
+  by-refusal P f g =
+      by-number m c (λ o. P (o .machine) (eqb (refusal (viewGiven p) c) 0))
+      (λ e. let a = sym number-told ∙ e in subst (P (perform m c .machine)) (sym (eq-eqb (refusal (viewGiven p) c) 0 a)) (f a))
+      (λ e. subst (P m) (sym (ne-eqb (refusal (viewGiven p) c) 0 (λ q. e (number-told ∙ q)))) g)
+
   after-call : Moved p (past ++ (c ∷ [])) (call m c .machine) (next p past c h)
   after-call =
-      by-number m c (λ o. Moved p (past ++ (c ∷ [])) (o .machine) (next p past c h))
-      (λ e.
-      let a = sym number-told ∙ e in
-      subst (λ (g : History). Moved p (past ++ (c ∷ [])) (perform m c .machine) g)
-      (sym (cond-on (eq-eqb (refusal (viewGiven p) c) 0 a) (moved p past c h) h))
-      (performed-moved p past c m h inv a))
-      (λ e.
       let more = more-past p past c m h inv in
-      subst (λ (g : History). Moved p (past ++ (c ∷ [])) m g)
-      (sym (cond-off (ne-eqb (refusal (viewGiven p) c) 0 (λ q. e (number-told ∙ q))) (moved p past c h) h))
-      (record { entries = more .entries; names = more .names; keys = more .keys; givens = more .givens }))
+      by-refusal (λ n t. Moved p (past ++ (c ∷ [])) n (cond t (moved p past c h) h)) (performed-moved p past c m h inv)
+      (record { entries = more .entries; names = more .names; keys = more .keys; givens = more .givens })
 
   pub holds-next : Holds p (past ++ (c ∷ [])) (call m c .machine) (next p past c h)
   holds-next =

@@ -8,6 +8,9 @@ pub mod Validities
 pub mod Histories
 pub mod Demand3
 pub mod Corollaries
+pub mod Status
+pub mod Registers
+pub mod Operator
 pub mod Bytes
 pub mod Shapes
 pub mod Lent

@@ -25,7 +25,7 @@ use Rattle.model.specs.Cpu.{cpuSize, xmmAt, xmm}
 use Rattle.model.specs.Forms.{registerOf, keySource, notReady}
 use Rattle.model.specs.Calls.{StepCall, Call, step, read, write, settle, sleep, reset, processorOf}
 use Rattle.model.specs.Validity.{valid}
-use Rattle.model.specs.Refusals.{of, randomLength, refusal}
+use Rattle.model.specs.Refusals.{randomLength, refusal}
 use Rattle.model.specs.Instructions.{Executed, plainKey, mixedWith, loadedKey, load, execute, stepped, executed}
 use Rattle.model.specs.Backup.{Copied, copyOut, copyIn, written, settled, storeKept, woken}
 use Rattle.model.specs.Execution.{fresh, zeroPlatform, viewOf, perform, call}

@@ -99,11 +99,14 @@ abbrev pub steppedNames : ℕ → StepCall → History → History
 steppedNames i s h = cond (loads s) (renamed (s .processor) i h) h
 
 -- "Write 0xD91, bit 0 set: where pending and the NoBackup of the processor's name are 0, backup := that name, pending 1."
+abbrev pub copiesOut : List Call → ℕ → History → Bool
+copiesOut past p h = eqb (h .pending) 0 && eqb (noBackupOf past (nameAt p h)) 0
+
+abbrev pub sent : ℕ → History → History
+sent p h = record { names = h .names; backup = some (nameAt p h); store = h .store; pending = 1 }
+
 unfoldable pub copiedOut : List Call → ℕ → History → History
-copiedOut past p h =
-    cond (eqb (h .pending) 0 && eqb (noBackupOf past (nameAt p h)) 0)
-    (record { names = h .names; backup = some (nameAt p h); store = h .store; pending = 1 })
-    h
+copiedOut past p h = cond (copiesOut past p h) (sent p h) h
 
 -- "Write 0xD92, bit 0 set: unless backup is none, the processor gets the backup's name."
 abbrev pub gets : ℕ → Option ℕ → History → History

@@ -10,6 +10,7 @@ pub mod Backup
 pub mod Execution
 pub mod History
 pub mod Demand3
+pub mod Status
 pub mod Layout
 pub mod Lent
 pub mod Examples
