@@ -3,19 +3,25 @@
 use mathlib.Core.Path.{_≡_, _∙_, refl, sym, ap, subst}
 use mathlib.Core.Bool.{Bool, true, false, cond, not, _&&_}
 use mathlib.Core.List.{List, [], _∷_}
+use mathlib.Core.Option.{Option, some}
 use Prim.Native.Nat.{ℕ}
 use lib.Dec.{eqb}
-use lib.ListN.{length}
+use lib.ListN.{length, getD}
 use borrow.Author.Tests.{eqb-true, eq-eqb}
 use Rattle.bits.proofs.Choice.{cond-on, on-cond}
-use Rattle.model.specs.Calls.{PowerOn, ReadCall, Call, step, read, write, settle, sleep, reset, Answer, Outcome}
+use Rattle.model.specs.Calls.{PowerOn, ReadCall, WriteCall, Call, step, read, write, settle, sleep, reset, Answer, Outcome}
 use Rattle.model.specs.Validity.{validCount, validFeatures}
 use Rattle.model.specs.Refusals.{test, first}
 use Rattle.model.specs.Execution.{powerOnRefusal, powerOn, Run}
-use Rattle.model.specs.Demand3.{Demand3}
+use Rattle.model.specs.History.{nameAt, history}
+use Rattle.model.specs.Demand3.{held, Demand3}
+use Rattle.model.specs.Status.{StatusRegisters, ruleCalls, OperatorRule}
 use Rattle.model.specs.Layout.{machineSize, machineBytes, machineAt}
 use Rattle.model.specs.Lent.{Lent, powerOnLent, callLent, runLent}
-use Rattle.model.proofs.Lent.{power-on-lent, demand-3-lent}
+use Rattle.model.specs.Records.{zeroKey}
+use Rattle.model.specs.declared.IwKey.{IwKey}
+use Rattle.model.proofs.Lent.{power-on-lent, demand-3-lent, status-registers-lent}
+use Rattle.model.proofs.Operator.{operator-rule}
 use Rattle.keylocker.specs.Promises.{answer, gave, ReadPromise}
 use Rattle.keylocker.specs.Executions.{Chain, ended, stepped, didRead, wrote, settled, slept, wasReset, Execution}
 use Rattle.keylocker.proofs.Finishing.{cpuOf, valueOf, answer-as, promised, read-block, read-value, read-promised}
@@ -66,12 +72,25 @@ module _ (p : PowerOn) (calls : List Call) (r : Run) (x : Execution p calls r) w
   execution-block : blockAfter (machineBytes (powerOn p .machine)) calls ≡ x .last
   execution-block = ap (λ (b : List ℕ). blockAfter b calls) (sym first-block) ∙ chain-ran (x .chain) .left
 
-  -- ---- demand 3
+  -- ---- demand 3, and what the status registers tell
+
+  lent-run : runLent (powerOnLent (x .lent) p .block) calls ≡ r
+  lent-run = ap (λ (b : List ℕ). runLent b calls) (power-on-lent (x .lent) p powered .1) ∙ execution-run
 
   pub demand-3-c : Demand3 p calls r
-  demand-3-c =
-      subst (Demand3 p calls)
-      (ap (λ (b : List ℕ). runLent b calls) (power-on-lent (x .lent) p powered .1) ∙ execution-run) (demand-3-lent (x .lent) p powered calls)
+  demand-3-c = subst (Demand3 p calls) lent-run (demand-3-lent (x .lent) p powered calls)
+
+  pub status-registers-c : StatusRegisters p calls r
+  status-registers-c = subst (StatusRegisters p calls) lent-run (status-registers-lent (x .lent) p powered calls)
+
+-- a write of 1 to 0xD91 on a processor, its copy status read 1 directly after it, valid read 1 later, and nothing between that takes either away: the store
+-- has the processor's name, and holds its IWKey
+pub operator-rule-c : (p : PowerOn) (r : Run) (xs : List Call) (w : WriteCall) (c : ReadCall) (ys : List Call) (v : ReadCall)
+    → Execution p (ruleCalls xs w c ys v) r → OperatorRule p r xs w c ys v
+    → (_≡_ {A = Option ℕ} (history p (ruleCalls xs w c ys v) .store) (some (nameAt (w .processor) (history p (ruleCalls xs w c ys v)))))
+    × (_≡_ {A = Option IwKey} (held (r .machine) .store) (some (getD (held (r .machine) .processors) (w .processor) zeroKey)))
+operator-rule-c p r xs w c ys v x o =
+    let calls = ruleCalls xs w c ys v in operator-rule p r xs w c ys v (demand-3-c p calls r x) (status-registers-c p calls r x) o
 
 -- ---- one execution, and no other
 

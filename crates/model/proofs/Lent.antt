@@ -14,6 +14,7 @@ use Rattle.model.specs.Validity.{validCount, validFeatures}
 use Rattle.model.specs.Refusals.{test, first}
 use Rattle.model.specs.Execution.{fresh, powerOnRefusal, done, powerOn, call, Run, run}
 use Rattle.model.specs.Demand3.{Demand3}
+use Rattle.model.specs.Status.{StatusRegisters}
 use Rattle.model.specs.Layout.{machineSize, machineBytes, machineAt, Shaped}
 use Rattle.model.specs.Lent.{Lent, powerOnLentRefusal, powerOnLent, callLent, runLent}
 use Rattle.model.specs.declared.Machine.{Machine}
@@ -22,6 +23,7 @@ use Rattle.model.proofs.Frames.{refused-kept}
 use Rattle.model.proofs.Shapes.{fresh-shaped, call-shaped}
 use Rattle.model.proofs.Validities.{power-on-valid}
 use Rattle.model.proofs.Demand3.{demand-3}
+use Rattle.model.proofs.Registers.{status-registers}
 
 -- ---- a refused call
 
@@ -77,12 +79,19 @@ power-on-lent block p e =
     allowed true b c e = (refl, e)
     allowed false b c e = absurd (suc-ne-zero 0 e)
 
--- ---- demand 3 on one lent block
+-- ---- a power-on and calls on one lent block
 
-pub demand-3-lent : (block : List ℕ) (p : PowerOn) → powerOnLent block p .answer .number ≡ 0 → (calls : List Call)
-    → Demand3 p calls (runLent (powerOnLent block p .block) calls)
-demand-3-lent block p ok calls =
-    let on = power-on-lent block p ok in
-    let m = powerOn p .machine in
-    let shaped : Shaped m = subst Shaped (sym (power-on-valid p (on .2) .0)) (fresh-shaped (p .count) (p .features)) in
-    subst (Demand3 p calls) (sym (ap (λ (t : List ℕ). runLent t calls) (on .1) ∙ run-lent calls m shaped)) (demand-3 p (on .2) calls)
+module _ (block : List ℕ) (p : PowerOn) (ok : powerOnLent block p .answer .number ≡ 0) (calls : List Call) where
+  powered : powerOn p .answer .number ≡ 0
+  powered = power-on-lent block p ok .2
+
+  run-on : runLent (powerOnLent block p .block) calls ≡ run (powerOn p .machine) calls
+  run-on =
+      let shaped : Shaped (powerOn p .machine) = subst Shaped (sym (power-on-valid p powered .0)) (fresh-shaped (p .count) (p .features)) in
+      ap (λ (t : List ℕ). runLent t calls) (power-on-lent block p ok .1) ∙ run-lent calls (powerOn p .machine) shaped
+
+  pub demand-3-lent : Demand3 p calls (runLent (powerOnLent block p .block) calls)
+  demand-3-lent = subst (Demand3 p calls) (sym run-on) (demand-3 p powered calls)
+
+  pub status-registers-lent : StatusRegisters p calls (runLent (powerOnLent block p .block) calls)
+  status-registers-lent = subst (StatusRegisters p calls) (sym run-on) (status-registers p powered calls)
