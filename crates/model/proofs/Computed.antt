@@ -45,7 +45,7 @@ abbrev pub sleeping : ℕ → Call
 sleeping code = sleep (record { code = code })
 
 -- key 1 in backup and store
-abbrev pub stored : List Call
+abbrev stored : List Call
 stored = load 0 0 [] 1 ∷ out 0 ∷ settling 0 ∷ []
 
 -- key 4 in the backup, pending, and key 1 in the store
