@@ -177,10 +177,18 @@ uint32_t keylocker_step(uint8_t *machine, size_t machine_len, uint8_t processor,
 #define KEYLOCKER_COPY_LOCAL_TO_PLATFORM 0xD91 /* backup := the processor's IWKey; fails if that has NoBackup, or a backup is pending */
 #define KEYLOCKER_COPY_PLATFORM_TO_LOCAL 0xD92 /* the processor's IWKey := backup; fails if there is none */
 
-/* what is read from IA32_COPY_STATUS: whether the last copy on this processor worked */
+/* What is read from IA32_COPY_STATUS: whether the last copy on this processor, out or in, worked; 0 where there was none since power-on, sleep or reset.
+ * It stays 1 when another IWKey is loaded, and when another processor overwrites the backup. Directly after a copy out, 1 means that the platform has
+ * taken the IWKey, not that persistent storage holds it. */
 #define KEYLOCKER_COPY_STATUS_DONE 0x1
 
-/* what is read from IA32_IWKEYBACKUP_STATUS */
+/* What is read from IA32_IWKEYBACKUP_STATUS, on any processor. Valid is 1 exactly while no backup is pending and persistent storage holds an IWKey; backup
+ * and storage then hold the same one, and a sleep with code old or new leaves it in the backup. While a backup is pending valid is 0.
+ *
+ * Before a planned sleep: write 1 to KEYLOCKER_COPY_LOCAL_TO_PLATFORM, read copy status on the same processor at once and stop unless it is 1, wait until
+ * valid or error is 1, and sleep only if it is valid. Persistent storage then holds this processor's IWKey, provided that in between no IWKey was loaded or
+ * copied in on it, no other copy out worked on any processor, and there was no sleep and no reset. A sleep while the backup is pending may leave the
+ * IWKey that storage had before, this one, or none. */
 #define KEYLOCKER_BACKUP_VALID 0x1
 #define KEYLOCKER_BACKUP_ERROR 0x4
 #define KEYLOCKER_BACKUP_CONSUMED 0x8 /* persistent storage has done with it, well or badly; a sleep clears it */

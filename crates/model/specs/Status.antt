@@ -51,7 +51,7 @@ statusFrom p past h q old (c ∷ l) = statusFrom p (past ++ (c ∷ [])) (next p 
 abbrev pub copyStatus : PowerOn → List Call → ℕ → ℕ
 copyStatus p calls q = statusFrom p [] (atFirst p) q 0 calls
 
--- a call that cannot change the copy status of q: it is refused, or neither a copy on q nor a sleep or reset
+-- a call that leaves the copy status of q: neither a copy on q nor a sleep or reset
 abbrev pub noCopyOn : ℕ → Call → Bool
 noCopyOn q (step s) = true
 noCopyOn q (read r) = true
@@ -60,6 +60,7 @@ noCopyOn q (settle s) = true
 noCopyOn q (sleep s) = false
 noCopyOn q reset = false
 
+-- each of the calls is refused or leaves it
 abbrev pub statusLeft : PowerOn → ℕ → List Call → Bool
 statusLeft p q [] = true
 statusLeft p q (c ∷ l) = (not (accepted p c) || noCopyOn q c) && statusLeft p q l
