@@ -5,7 +5,7 @@ ghost use lib.ListN.{getD};
 ghost use Rattle.isa.specs.Address as isa;
 ghost use Rattle.isa.specs.Ranges.{handleLength, someNotCanonical, someOutside};
 ghost use Rattle.isa.specs.Ranges as ranges;
-use aes::KeySize;
+use fips197::KeySize;
 use isa::Address;
 use isa::Base;
 use isa::Index;

@@ -13,9 +13,10 @@ use Rattle.fips197.specs.KeyExpansion.{wordAt}
 use Rattle.fips197.specs.Cipher.{cipher}
 use Rattle.fips197.specs.InvCipher.{invCipher}
 use Rattle.fips197.proofs.Schedule.{cipher-take, inv-cipher-take}
-use Rattle.aes.specs.Form.{nk, nr, schedule}
-use Rattle.aes.specs.declared.KeySize.{KeySize}
-use Rattle.aes.specs.declared.KeySize.the-variants.{Aes128, Aes256}
+use Rattle.fips197.specs.Sizes.{nk, nr}
+use Rattle.aes.specs.Form.{schedule}
+use Rattle.fips197.specs.declared.KeySize.{KeySize}
+use Rattle.fips197.specs.declared.KeySize.the-variants.{Aes128, Aes256}
 
 -- w[i], also past the end
 pub word-words : (w : List ℕ) (i : ℕ) → wordAt (leWords 4 w) i ≡ leBytes 4 (getD w i 0)

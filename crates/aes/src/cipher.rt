@@ -6,11 +6,12 @@ ghost use Rattle.fips197.specs.Sbox.{sbox, TableOf};
 ghost use Rattle.fips197.specs.Cipher.{subBytes, shiftRows, addRoundKey, cipher};
 ghost use Rattle.fips197.specs.Cipher as fips;
 ghost use Rattle.fips197.specs.KeyExpansion.{roundKey};
-ghost use Rattle.aes.specs.Form.{bytesOf, nr, schedule};
+ghost use Rattle.fips197.specs.Sizes.{nr};
+ghost use Rattle.aes.specs.Form.{bytesOf, schedule};
 use crate::Block;
-use crate::KeySize;
 use crate::mix::mix_columns;
 use crate::word::sub_diagonal;
+use fips197::KeySize;
 use sbox::sbox_table;
 
 pub fn rounds(size: KeySize) -> usize

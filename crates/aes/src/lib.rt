@@ -16,13 +16,3 @@ pub struct Key {
     pub low: Block,
     pub high: Block,
 }
-
-pub enum KeySize {
-    Aes128,
-    Aes256,
-}
-
-pub enum Direction {
-    Encrypt,
-    Decrypt,
-}

@@ -10,8 +10,8 @@ use Rattle.fips197.specs.State.{word}
 use Rattle.fips197.specs.Cipher.{mixRow}
 use Rattle.fips197.specs.InvCipher.{invMixRow}
 use Rattle.aes.specs.Columns.{mixed}
-use Rattle.aes.specs.declared.Direction.{Direction}
-use Rattle.aes.specs.declared.Direction.the-variants.{Encrypt, Decrypt}
+use Rattle.fips197.specs.declared.Direction.{Direction}
+use Rattle.fips197.specs.declared.Direction.the-variants.{Encrypt, Decrypt}
 
 -- what the byte s in row k makes of a mixed column: column k of the matrix, times s
 abbrev pub part : List ℕ → ℕ → ℕ → List ℕ

@@ -9,7 +9,8 @@ ghost use Rattle.fips197.specs.Cipher.{subBytes, shiftRows, mixRow, mixColumns,
 ghost use Rattle.fips197.specs.Cipher as fips;
 ghost use Rattle.fips197.specs.InvCipher.{invSubBytes, invShiftRows, invMixRow, invMixColumns, invRound, invCipher};
 ghost use Rattle.aes_blocks.specs.Tables.{Products, MixTable, InvMixed};
-ghost use Rattle.aes.specs.Form.{bytesOf, nr, schedule};
+ghost use Rattle.fips197.specs.Sizes.{nr};
+ghost use Rattle.aes.specs.Form.{bytesOf, schedule};
 
 pub mod tables;
 
@@ -17,8 +18,6 @@ use crate::tables::fill_table;
 use crate::tables::inv_products;
 use crate::tables::table_column;
 use aes::Block;
-use aes::Direction;
-use aes::KeySize;
 use aes::cipher::add_round_key;
 use aes::cipher::final_round;
 use aes::cipher::round_key;
@@ -27,6 +26,8 @@ use aes::inv_cipher::inv_final_round;
 use aes::mix::inv_mix_column;
 use aes::word::block_at;
 use aes::word::put_block;
+use fips197::Direction;
+use fips197::KeySize;
 use sbox::inverse::inverse_table;
 use sbox::sbox_table;
 

@@ -10,11 +10,11 @@ ghost use Rattle.fips197.specs.InvCipher.{invMixRow};
 ghost use Rattle.fips197.specs.KeyExpansion.{rotWord};
 ghost use Rattle.aes.specs.Columns.{mixed, diagonal};
 ghost use Rattle.aes_blocks.specs.Tables.{part, Products, MixTable, firstRow};
-use aes::Direction;
 use aes::mix::inv_mix_column;
 use aes::mix::mix_column;
 use aes::word::rot_word;
 use aes::word::wide;
+use fips197::Direction;
 
 // The products with k and the bytes that follow up to 2 k: sums of two, as k is a power of two.
 fn double_products(m: &mut [u32; 256], k: usize, x: u32)

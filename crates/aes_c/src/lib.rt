@@ -7,12 +7,13 @@ ghost use Rattle.bits.specs.Blocks.{mapBlocks};
 ghost use Rattle.fips197.specs.Cipher.{cipher};
 ghost use Rattle.fips197.specs.InvCipher.{invCipher};
 ghost use Rattle.fips197.specs.KeyExpansion.{keyExpansion};
-ghost use Rattle.aes.specs.Form.{nk, nr, schedule};
+ghost use Rattle.fips197.specs.Sizes.{nk, nr};
+ghost use Rattle.aes.specs.Form.{schedule};
 ghost use Rattle.aes_c.specs.Size.{sizeOf};
-use aes::KeySize;
 use aes::word::from_bytes;
 use aes::word::key_from_bytes;
 use aes::word::to_bytes;
+use fips197::KeySize;
 
 pub fn key_size(size: u8) -> KeySize
     ensures { λ r. ⌜ r ≡ sizeOf size ⌝ }

@@ -20,9 +20,9 @@ use Rattle.bits.proofs.Words.{le-xor, words-append, words-take}
 use Rattle.fips197.specs.Field.{xtime}
 use Rattle.fips197.specs.KeyExpansion.{wordAt, addWords, subWord, rotWord, power, rcon, transformed, nextWord, expanded}
 use Rattle.fips197.proofs.Schedule.{power-byte}
-use Rattle.aes.specs.Form.{nk}
-use Rattle.aes.specs.declared.KeySize.{KeySize}
-use Rattle.aes.specs.declared.KeySize.the-variants.{Aes128, Aes256}
+use Rattle.fips197.specs.Sizes.{nk}
+use Rattle.fips197.specs.declared.KeySize.{KeySize}
+use Rattle.fips197.specs.declared.KeySize.the-variants.{Aes128, Aes256}
 use Rattle.aes.proofs.Schedule.{word-words}
 
 -- the powers of x that ten round constants need, as the code shifts for them

@@ -7,11 +7,12 @@ ghost use Rattle.bits.specs.Words.{leBytes, leWords};
 ghost use Rattle.fips197.specs.Sbox.{sbox, TableOf};
 ghost use Rattle.fips197.specs.KeyExpansion.{power, subWord, keyExpansion, nextWord};
 ghost use Rattle.fips197.specs.KeyExpansion as fips;
-ghost use Rattle.aes.specs.Form.{bytesOf, nk, keyBytes, schedule};
+ghost use Rattle.fips197.specs.Sizes.{nk};
+ghost use Rattle.aes.specs.Form.{bytesOf, keyBytes, schedule};
 use aes::Key;
-use aes::KeySize;
 use aes::word::rot_word;
 use aes::word::sub_diagonal;
+use fips197::KeySize;
 use sbox::sbox_table;
 
 fn key_words(size: KeySize) -> usize

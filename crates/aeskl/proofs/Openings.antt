@@ -16,11 +16,12 @@ use Rattle.bits.proofs.Words.{value-of-le, value-append}
 use Rattle.handle.specs.Format.{tagOf, ciphertextOf}
 use Rattle.handle.specs.Wrap.{decrypted, unwrapKey}
 use Rattle.handle.proofs.Wrap.{masked-length, unwrap-key}
-use Rattle.aes.specs.Form.{bytesOf, nk, keyBytes}
-use Rattle.aes.specs.declared.Direction.{Direction}
+use Rattle.fips197.specs.Sizes.{nk}
+use Rattle.aes.specs.Form.{bytesOf, keyBytes}
+use Rattle.fips197.specs.declared.Direction.{Direction}
 use Rattle.aes.specs.declared.Key.{Key}
-use Rattle.aes.specs.declared.KeySize.{KeySize}
-use Rattle.aes.specs.declared.KeySize.the-variants.{Aes128, Aes256}
+use Rattle.fips197.specs.declared.KeySize.{KeySize}
+use Rattle.fips197.specs.declared.KeySize.the-variants.{Aes128, Aes256}
 use Rattle.keywrap.specs.Form.{wholeKey, handleBytes, padded, paddedKey}
 use Rattle.keywrap.specs.declared.Handle.{Handle}
 use Rattle.model.specs.Instructions.{typeOf, forbids, illegal, openedFor}

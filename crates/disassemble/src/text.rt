@@ -1,6 +1,6 @@
 // Instructions as text, in Intel's syntax.
-use aes::Direction;
-use aes::KeySize;
+use fips197::Direction;
+use fips197::KeySize;
 use isa::Base;
 use isa::Decoded;
 use isa::EncodeKey;

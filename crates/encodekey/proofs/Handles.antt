@@ -10,10 +10,11 @@ use Rattle.bits.specs.Words.{leBytes}
 use Rattle.bits.proofs.Lists.{sets-append}
 use Rattle.bits.proofs.Words.{le-append}
 use Rattle.handle.specs.Format.{aad}
-use Rattle.aes.specs.Form.{nk, keyBytes}
+use Rattle.fips197.specs.Sizes.{nk}
+use Rattle.aes.specs.Form.{keyBytes}
 use Rattle.aes.specs.declared.Key.{Key}
-use Rattle.aes.specs.declared.KeySize.{KeySize}
-use Rattle.aes.specs.declared.KeySize.the-variants.{Aes128, Aes256}
+use Rattle.fips197.specs.declared.KeySize.{KeySize}
+use Rattle.fips197.specs.declared.KeySize.the-variants.{Aes128, Aes256}
 use Rattle.isa.specs.Ranges.{handleLength}
 use Rattle.keywrap.specs.Form.{wholeKey, wholeHandle, handleBytes, padded}
 use Rattle.keywrap.specs.declared.Handle.{Handle}

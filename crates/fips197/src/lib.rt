@@ -1,1 +1,13 @@
-// FIPS 197 as definitions, in its order and words, and the theorems on them. The code is in `sbox` and `aes`.
+// FIPS 197 as definitions, in its order and words, and the theorems on them. The code is in the crates `sbox`, `aes`, `aes_key` and `aes_blocks`.
+
+// Section 5, figure 4: the key sizes that Key Locker has.
+pub enum KeySize {
+    Aes128,
+    Aes256,
+}
+
+// Cipher or InvCipher.
+pub enum Direction {
+    Encrypt,
+    Decrypt,
+}

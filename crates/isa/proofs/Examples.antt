@@ -4,8 +4,8 @@ use mathlib.Core.Path.{_≡_, refl}
 use mathlib.Core.Bool.{false}
 use mathlib.Core.List.{List, [], _∷_}
 use Prim.Native.Nat.{ℕ}
-use Rattle.aes.specs.declared.Direction.the-variants.{Encrypt, Decrypt}
-use Rattle.aes.specs.declared.KeySize.the-variants.{Aes256}
+use Rattle.fips197.specs.declared.Direction.the-variants.{Encrypt, Decrypt}
+use Rattle.fips197.specs.declared.KeySize.the-variants.{Aes256}
 use Rattle.isa.specs.Address.{effectiveAddress}
 use Rattle.isa.specs.Decode.{refusal, decode, decodeAt, displacement32, displacementAt, indexOf, sibOf, modrmOf, instructionOf}
 use Rattle.isa.specs.declared.Base.the-variants as base

@@ -7,10 +7,10 @@ use Prim.Native.Nat.{ℕ, _+_, _/_, _%_}
 use lib.Dec.{eqb, leb, ltb}
 use lib.ListN.{length, getD}
 use Rattle.bits.specs.Words.{leValue}
-use Rattle.aes.specs.declared.Direction.{Direction}
-use Rattle.aes.specs.declared.Direction.the-variants.{Encrypt, Decrypt}
-use Rattle.aes.specs.declared.KeySize.{KeySize}
-use Rattle.aes.specs.declared.KeySize.the-variants.{Aes128, Aes256}
+use Rattle.fips197.specs.declared.Direction.{Direction}
+use Rattle.fips197.specs.declared.Direction.the-variants.{Encrypt, Decrypt}
+use Rattle.fips197.specs.declared.KeySize.{KeySize}
+use Rattle.fips197.specs.declared.KeySize.the-variants.{Aes128, Aes256}
 use Rattle.isa.specs.declared.Base.{Base}
 use Rattle.isa.specs.declared.Base.the-variants as base
 use Rattle.isa.specs.declared.Index.{Index}

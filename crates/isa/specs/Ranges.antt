@@ -3,8 +3,8 @@
 use mathlib.Core.Bool.{Bool, false, not, _||_}
 use Prim.Native.Nat.{ℕ, zero, suc, _+_, _-_, _*_, _^_, _/_, _%_}
 use lib.Dec.{eqb, leb}
-use Rattle.aes.specs.Form.{nk}
-use Rattle.aes.specs.declared.KeySize.{KeySize}
+use Rattle.fips197.specs.Sizes.{nk}
+use Rattle.fips197.specs.declared.KeySize.{KeySize}
 
 -- SDM volume 1, 3.3.7.1: bits 63:47 are alike
 abbrev pub canonical : ℕ → Bool

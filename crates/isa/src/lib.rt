@@ -1,6 +1,6 @@
 // Key Locker instructions as they stand in a string, and their operands. Definitions and laws; the code is in `address`.
-use aes::Direction;
-use aes::KeySize;
+use fips197::Direction;
+use fips197::KeySize;
 
 // The base of a memory place; a register is a number below 16.
 pub enum Base {

@@ -4,10 +4,11 @@ use mathlib.Core.Path.{_≡_, refl}
 use Prim.Native.Nat.{ℕ, _*_, _≤_}
 use native.Mathlib.Omega.{arith}
 use lib.ListN.{length}
-use Rattle.aes.specs.Form.{nk, keyBytes}
+use Rattle.fips197.specs.Sizes.{nk}
+use Rattle.aes.specs.Form.{keyBytes}
 use Rattle.aes.specs.declared.Key.{Key}
-use Rattle.aes.specs.declared.KeySize.{KeySize}
-use Rattle.aes.specs.declared.KeySize.the-variants.{Aes128, Aes256}
+use Rattle.fips197.specs.declared.KeySize.{KeySize}
+use Rattle.fips197.specs.declared.KeySize.the-variants.{Aes128, Aes256}
 
 -- the blocks of a key
 abbrev pub count : KeySize → ℕ

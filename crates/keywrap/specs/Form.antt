@@ -6,7 +6,7 @@ use Prim.Native.Nat.{ℕ}
 use lib.ListN.{take, replicate}
 use Rattle.aes.specs.Form.{bytesOf, keyBytes}
 use Rattle.aes.specs.declared.Key.{Key}
-use Rattle.aes.specs.declared.KeySize.{KeySize}
+use Rattle.fips197.specs.declared.KeySize.{KeySize}
 use Rattle.handle.specs.Format as format
 use Rattle.keywrap.specs.declared.Handle.{Handle}
 use Rattle.keywrap.specs.declared.Unwrapped.{Unwrapped}

@@ -6,8 +6,9 @@ ghost use lib.ListN.{length};
 ghost use Rattle.bits.specs.Bytes.{xorBytes, alike};
 ghost use Rattle.fips197.specs.Cipher.{mixRow, cipher};
 ghost use Rattle.fips197.specs.Sbox.{sbox, TableOf};
-ghost use Rattle.aes.specs.Form.{bytesOf, nr, keyBytes, schedule};
-ghost use Rattle.aes.specs.declared.KeySize.the-variants.{Aes256};
+ghost use Rattle.fips197.specs.Sizes.{nr};
+ghost use Rattle.aes.specs.Form.{bytesOf, keyBytes, schedule};
+ghost use Rattle.fips197.specs.declared.KeySize.the-variants.{Aes256};
 ghost use Rattle.aes_blocks.specs.Tables.{MixTable};
 ghost use Rattle.handle.specs.Wrap as handle;
 ghost use Rattle.handle.specs.Wrap.{wrapKey, unwrapKey};
@@ -16,12 +17,12 @@ use crate::Handle;
 use crate::Unwrapped;
 use crate::hash::hashed;
 use aes::Block;
-use aes::Direction;
 use aes::Key;
-use aes::KeySize;
 use aes_blocks::encrypt_block_with;
 use aes_blocks::tables::fill_table;
 use aes_key::expand_with;
+use fips197::Direction;
+use fips197::KeySize;
 use sbox::sbox_table;
 
 fn clear_top(b: Block) -> Block

@@ -7,9 +7,9 @@ use native.Mathlib.Omega.{arith}
 use lib.ListN.{length, take, drop}
 use lib.Seq.{take-all}
 use Rattle.bits.proofs.Lists.{part-add}
-use Rattle.aes.specs.Form.{nk}
-use Rattle.aes.specs.declared.KeySize.{KeySize}
-use Rattle.aes.specs.declared.KeySize.the-variants.{Aes128, Aes256}
+use Rattle.fips197.specs.Sizes.{nk}
+use Rattle.fips197.specs.declared.KeySize.{KeySize}
+use Rattle.fips197.specs.declared.KeySize.the-variants.{Aes128, Aes256}
 use Rattle.keywrap.specs.Form.{handleBytes, wholeHandle}
 use Rattle.keywrap.specs.declared.Handle.{Handle}
 

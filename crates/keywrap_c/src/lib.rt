@@ -6,7 +6,7 @@ ghost use Prim.Native.Nat.{ℕ, _/_, _+_, _*_};
 ghost use lib.ListN.{length, take};
 ghost use Rattle.bits.specs.Blocks.{blocks};
 ghost use Rattle.rfc8452.specs.Polyval as rfc;
-ghost use Rattle.aes.specs.Form.{nk};
+ghost use Rattle.fips197.specs.Sizes.{nk};
 ghost use Rattle.aes_c.specs.Size.{sizeOf};
 ghost use Rattle.handle.specs.Wrap.{wrapKey, unwrapKey};
 ghost use Rattle.keywrap.specs.Form.{wholeKey, wholeHandle, padded, paddedKey, opened};

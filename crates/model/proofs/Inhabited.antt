@@ -8,9 +8,9 @@ use native.Mathlib.Nat.{not-suc-le-zero, le-of-suc-le-suc}
 use native.Mathlib.Omega.{arith}
 use lib.ListN.{length, getD, take, replicate, List·getD-map}
 use lib.Seq.{sets, length-sets, take-nil, length-take-le, getD-append-seam}
-use Rattle.aes.specs.declared.Direction.the-variants.{Encrypt}
-use Rattle.aes.specs.declared.KeySize.{KeySize}
-use Rattle.aes.specs.declared.KeySize.the-variants.{Aes128, Aes256}
+use Rattle.fips197.specs.declared.Direction.the-variants.{Encrypt}
+use Rattle.fips197.specs.declared.KeySize.{KeySize}
+use Rattle.fips197.specs.declared.KeySize.the-variants.{Aes128, Aes256}
 use Rattle.isa.specs.Address.{effectiveAddress}
 use Rattle.isa.specs.Decode.{decodeAt, displacement32, displacementAt, indexOf, sibOf, modrmOf, instructionOf}
 use Rattle.isa.specs.Ranges.{handleLength, someNotCanonical, someOutside}

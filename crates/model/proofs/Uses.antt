@@ -18,11 +18,11 @@ use Rattle.handle.specs.Format.{aad, aadOf, restrictions}
 use Rattle.handle.specs.Wrap.{unwrapKey}
 use Rattle.handle.proofs.Aad.{aad-length, aad-key-type, aad-restrictions, aad-reserved}
 use Rattle.handle.proofs.Wrap.{wrap-length, wrap-aad, unwrap-wrap}
-use Rattle.aes.specs.Form.{nk}
-use Rattle.aes.specs.declared.Direction.{Direction}
-use Rattle.aes.specs.declared.Direction.the-variants.{Encrypt, Decrypt}
-use Rattle.aes.specs.declared.KeySize.{KeySize}
-use Rattle.aes.specs.declared.KeySize.the-variants.{Aes128, Aes256}
+use Rattle.fips197.specs.Sizes.{nk}
+use Rattle.fips197.specs.declared.Direction.{Direction}
+use Rattle.fips197.specs.declared.Direction.the-variants.{Encrypt, Decrypt}
+use Rattle.fips197.specs.declared.KeySize.{KeySize}
+use Rattle.fips197.specs.declared.KeySize.the-variants.{Aes128, Aes256}
 use Rattle.isa.specs.Ranges.{handleLength}
 use Rattle.isa.specs.declared.EncodeKey.{EncodeKey}
 use Rattle.isa.proofs.Ranges.{length-few}

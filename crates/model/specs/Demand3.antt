@@ -7,10 +7,10 @@ use mathlib.Core.Option.{Option, none, some, Option·map}
 use Prim.Native.Nat.{ℕ, zero, suc, _*_, _<_}
 use lib.Dec.{eqb, ltb}
 use lib.ListN.{length, getD, take}
-use Rattle.aes.specs.Form.{nk}
-use Rattle.aes.specs.declared.Direction.{Direction}
-use Rattle.aes.specs.declared.Direction.the-variants.{Encrypt, Decrypt}
-use Rattle.aes.specs.declared.KeySize.{KeySize}
+use Rattle.fips197.specs.Sizes.{nk}
+use Rattle.fips197.specs.declared.Direction.{Direction}
+use Rattle.fips197.specs.declared.Direction.the-variants.{Encrypt, Decrypt}
+use Rattle.fips197.specs.declared.KeySize.{KeySize}
 use Rattle.isa.specs.Decode.{decode}
 use Rattle.isa.specs.Ranges.{handleLength}
 use Rattle.isa.specs.declared.Decoded.{Decoded}

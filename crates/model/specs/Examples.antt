@@ -6,10 +6,10 @@ use mathlib.Core.Option.{Option, none, some, Option·map}
 use Prim.Native.Nat.{ℕ}
 use lib.ListN.{take, replicate}
 use lib.Seq.{sets}
-use Rattle.aes.specs.declared.Direction.{Direction}
-use Rattle.aes.specs.declared.Direction.the-variants.{Encrypt, Decrypt}
-use Rattle.aes.specs.declared.KeySize.{KeySize}
-use Rattle.aes.specs.declared.KeySize.the-variants.{Aes256}
+use Rattle.fips197.specs.declared.Direction.{Direction}
+use Rattle.fips197.specs.declared.Direction.the-variants.{Encrypt, Decrypt}
+use Rattle.fips197.specs.declared.KeySize.{KeySize}
+use Rattle.fips197.specs.declared.KeySize.the-variants.{Aes256}
 use Rattle.isa.specs.Decode.{decode}
 use Rattle.isa.specs.declared.Decoded.{Decoded}
 use Rattle.isa.specs.declared.Decoded.the-variants as decoded

@@ -6,8 +6,8 @@ use mathlib.Core.Option.{Option, none, some}
 use Prim.Native.Nat.{ℕ, _/_, _%_}
 use lib.Dec.{eqb}
 use lib.ListN.{length}
-use Rattle.aes.specs.declared.Direction.{Direction}
-use Rattle.aes.specs.declared.KeySize.{KeySize}
+use Rattle.fips197.specs.declared.Direction.{Direction}
+use Rattle.fips197.specs.declared.KeySize.{KeySize}
 use Rattle.isa.specs.Address.{effectiveAddress}
 use Rattle.isa.specs.Ranges.{handleLength}
 use Rattle.isa.specs.declared.Address.{Address}

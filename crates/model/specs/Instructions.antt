@@ -11,11 +11,11 @@ use Rattle.bits.specs.Bytes.{xorBytes}
 use Rattle.fips197.specs.Aes.{encrypt, decrypt}
 use Rattle.handle.specs.Format.{aad, aadOf, keyType, restrictions, reservedBitSet}
 use Rattle.handle.specs.Wrap.{wrapKey, unwrapKey}
-use Rattle.aes.specs.Form.{nk}
-use Rattle.aes.specs.declared.Direction.{Direction}
-use Rattle.aes.specs.declared.Direction.the-variants.{Encrypt, Decrypt}
-use Rattle.aes.specs.declared.KeySize.{KeySize}
-use Rattle.aes.specs.declared.KeySize.the-variants.{Aes128, Aes256}
+use Rattle.fips197.specs.Sizes.{nk}
+use Rattle.fips197.specs.declared.Direction.{Direction}
+use Rattle.fips197.specs.declared.Direction.the-variants.{Encrypt, Decrypt}
+use Rattle.fips197.specs.declared.KeySize.{KeySize}
+use Rattle.fips197.specs.declared.KeySize.the-variants.{Aes128, Aes256}
 use Rattle.isa.specs.Address.{nextRip}
 use Rattle.isa.specs.Decode.{decode}
 use Rattle.isa.specs.declared.Decoded.{Decoded}

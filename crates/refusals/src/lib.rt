@@ -14,7 +14,6 @@ ghost use Rattle.refusals.specs.Parts.{segmentNumber, handleTests, opera
 use address::effective_address;
 use address::some_not_canonical;
 use address::some_outside;
-use aes::KeySize;
 use cpu::control;
 use cpu::cpl;
 use cpu::register;
@@ -22,6 +21,7 @@ use cpu::register_of;
 use cpu::registers;
 use cpu::rip;
 use cpu::zero_field_set;
+use fips197::KeySize;
 use isa::Address;
 use isa::Decoded;
 use isa::Instruction;

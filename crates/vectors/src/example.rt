@@ -1,12 +1,12 @@
 // An example's bytes: its kind, how many blocks of 16 bytes its last field has (a key one or two, POLYVAL's input up to seven), and its fields.
 // Kinds are those of run.
-use crate::fips197;
+use crate::ciphers;
 use crate::handles;
 use crate::rfc8452;
 use aes::Block;
 use aes::Key;
-use aes::KeySize;
 use aes::word::block_at;
+use fips197::KeySize;
 use line::bytes;
 use line::find;
 
@@ -31,8 +31,8 @@ pub fn key_size(a: [u8; 960]) -> KeySize {
 
 fn run(name: &[u8], a: [u8; 960]) {
     match a[0] {
-        0 => fips197::expand(name, a),
-        1 => fips197::cipher(name, a),
+        0 => ciphers::expand(name, a),
+        1 => ciphers::cipher(name, a),
         2 => rfc8452::sum(name, a),
         3 => rfc8452::product(name, a),
         4 => rfc8452::dot(name, a),

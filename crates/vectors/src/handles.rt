@@ -6,7 +6,7 @@ use crate::print::print;
 use crate::print::print_block;
 use crate::print::start;
 use aes::Key;
-use aes::KeySize;
+use fips197::KeySize;
 use keywrap::Handle;
 use keywrap::Unwrapped;
 

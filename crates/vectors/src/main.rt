@@ -1,6 +1,6 @@
 // The papers' examples through the proved code: each line of standard input is one, and is answered by lines with the bytes that were computed.
+mod ciphers;
 mod example;
-mod fips197;
 mod handles;
 mod print;
 mod rfc8452;

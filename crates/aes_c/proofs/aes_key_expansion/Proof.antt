@@ -3,8 +3,9 @@ use mathlib.Core.List.{List}
 use Prim.Native.Nat.{ℕ, _*_}
 use lib.ListN.{take}
 use Rattle.fips197.specs.KeyExpansion.{keyExpansion}
-use Rattle.aes.specs.Form.{nk, schedule}
-use Rattle.aes.specs.declared.KeySize.{KeySize}
+use Rattle.fips197.specs.Sizes.{nk}
+use Rattle.aes.specs.Form.{schedule}
+use Rattle.fips197.specs.declared.KeySize.{KeySize}
 use borrow.Author.Needs.{needs}
 use Rattle.aes_c.proofs.aes_key_expansion.Statement.{statement}
 use Rattle.aes_c.proofs.aes_key_expansion.Tie as tie

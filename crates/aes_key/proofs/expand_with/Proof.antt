@@ -8,7 +8,8 @@ use lib.ListN.{length, take, length-set}
 use mathlib.Core.List.{List, _++_}
 use Rattle.bits.specs.Words.{leWords}
 use Rattle.fips197.specs.KeyExpansion.{expanded, keyExpansion}
-use Rattle.aes.specs.Form.{bytesOf, nk}
+use Rattle.fips197.specs.Sizes.{nk}
+use Rattle.aes.specs.Form.{bytesOf}
 use Rattle.aes_key.proofs.Expansion.{expanded-none, expands, key-words-few, key-front}
 use Rattle.aes_key.proofs.expand_with.Statement.{statement}
 use Rattle.aes_key.proofs.expand_with.Tie as tie

@@ -3,7 +3,7 @@ use Prim.Native.Nat.{ℕ, _-_}
 use lib.Bits.{bitXor}
 use lib.ListN.{getD}
 use Rattle.bits.specs.Words.{leBytes}
-use Rattle.aes.specs.Form.{nk}
+use Rattle.fips197.specs.Sizes.{nk}
 use Rattle.aes_key.proofs.Expansion.{next-words}
 use borrow.Author.Needs.{needs}
 use Rattle.aes_key.proofs.next_word.Statement.{statement}

@@ -7,7 +7,7 @@ use Prim.Native.Nat.{ℕ, _-_}
 use native.Mathlib.Omega.{arith}
 use Rattle.bits.specs.Words.{leBytes}
 use Rattle.fips197.specs.KeyExpansion.{power, subWord}
-use Rattle.aes.specs.Form.{nk}
+use Rattle.fips197.specs.Sizes.{nk}
 use Rattle.aes_key.proofs.Expansion.{constants, with-constant, substituted, copied}
 use borrow.Author.Needs.{needs}
 use Rattle.aes_key.proofs.transformed.Statement.{statement}

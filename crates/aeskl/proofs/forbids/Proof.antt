@@ -1,5 +1,5 @@
 use mathlib.Core.Path.{sym, ap}
-use Rattle.aes.specs.declared.Direction.{Direction}
+use Rattle.fips197.specs.declared.Direction.{Direction}
 use Rattle.model.specs.Instructions.{forbids}
 use borrow.Author.Needs.{needs}
 use Rattle.aeskl.proofs.forbids.Statement.{statement}

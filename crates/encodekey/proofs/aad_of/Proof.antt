@@ -1,6 +1,6 @@
 use mathlib.Core.Path.{_∙_, sym, ap}
 use native.Mathlib.Omega.{arith}
-use Rattle.aes.specs.declared.KeySize.{KeySize}
+use Rattle.fips197.specs.declared.KeySize.{KeySize}
 use Rattle.handle.specs.Format.{aad}
 use Rattle.model.specs.Instructions.{typeOf}
 use Rattle.encodekey.proofs.Handles.{aad-word}

@@ -3,7 +3,7 @@ use mathlib.Core.List.{List, _++_}
 use Prim.Native.Nat.{ℕ}
 use lib.Seq.{sets}
 use Rattle.aes.specs.Form.{bytesOf}
-use Rattle.aes.specs.declared.KeySize.{KeySize}
+use Rattle.fips197.specs.declared.KeySize.{KeySize}
 use Rattle.keywrap.specs.Form.{handleBytes}
 use Rattle.encodekey.proofs.Handles.{three-stored, fourth-stored}
 use borrow.Author.Needs.{needs}

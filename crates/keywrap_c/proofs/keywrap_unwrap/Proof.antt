@@ -3,8 +3,9 @@ use mathlib.Core.Path.{ap, _∙_}
 use mathlib.Core.List.{List}
 use Prim.Native.Nat.{ℕ, _+_, _*_}
 use lib.ListN.{take}
-use Rattle.aes.specs.Form.{nk, bytesOf, keyBytes}
-use Rattle.aes.specs.declared.KeySize.the-variants.{Aes256}
+use Rattle.fips197.specs.Sizes.{nk}
+use Rattle.aes.specs.Form.{bytesOf, keyBytes}
+use Rattle.fips197.specs.declared.KeySize.the-variants.{Aes256}
 use Rattle.handle.specs.Wrap.{unwrapKey}
 use Rattle.keywrap.specs.Form.{paddedKey}
 use Rattle.keywrap_c.specs.Answer as answer

@@ -2,7 +2,7 @@
 use mathlib.Core.Path.{_∙_}
 use Prim.Native.Nat.{_*_}
 use lib.ListN.{take}
-use Rattle.aes.specs.Form.{nk}
+use Rattle.fips197.specs.Sizes.{nk}
 use Rattle.handle.specs.Wrap.{wrapKey}
 use Rattle.keywrap.specs.Form.{padded}
 use borrow.Author.Needs.{needs}

@@ -1,5 +1,5 @@
 use mathlib.Core.Path.{sym, ap, _∙_}
-use Rattle.aes.specs.declared.Direction.{Direction}
+use Rattle.fips197.specs.declared.Direction.{Direction}
 use Rattle.aes_blocks.specs.Tables.{part, firstRow}
 use borrow.Author.Needs.{needs}
 use Rattle.aes_blocks.proofs.tables.fill_table.Statement.{statement}

@@ -6,7 +6,7 @@ use lib.ListN.{length}
 use Rattle.bits.specs.Blocks.{blocks}
 use Rattle.bits.specs.Words.{leValue}
 use Rattle.aes.specs.Form.{bytesOf, keyBytes}
-use Rattle.aes.specs.declared.KeySize.{KeySize}
+use Rattle.fips197.specs.declared.KeySize.{KeySize}
 use Rattle.rfc8452.specs.Field.{add, dot}
 use Rattle.rfc8452.specs.Polyval.{polyvalFrom}
 use Rattle.polyval.specs.Form.{num}

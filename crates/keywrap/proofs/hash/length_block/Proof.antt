@@ -1,7 +1,7 @@
 -- Assumes nothing.
 use mathlib.Core.Path.{sym, ap}
 use Rattle.aes.specs.Form.{bytesOf, keyBytes}
-use Rattle.aes.specs.declared.KeySize.{KeySize}
+use Rattle.fips197.specs.declared.KeySize.{KeySize}
 use Rattle.handle.specs.Wrap.{lengthBlock}
 use borrow.Author.Needs.{needs}
 use Rattle.keywrap.proofs.hash.length_block.Statement.{statement}

@@ -7,8 +7,8 @@ use Rattle.bits.specs.Bytes.{xorBytes}
 use Rattle.fips197.specs.Cipher.{cipher}
 use Rattle.fips197.proofs.Undo.{cipher-length}
 use Rattle.aes.specs.Form.{bytesOf, keyBytes, schedule}
-use Rattle.aes.specs.declared.KeySize.{KeySize}
-use Rattle.aes.specs.declared.KeySize.the-variants.{Aes256}
+use Rattle.fips197.specs.declared.KeySize.{KeySize}
+use Rattle.fips197.specs.declared.KeySize.the-variants.{Aes256}
 use Rattle.handle.specs.Wrap.{counterBlock, counterBlocks}
 use Rattle.keywrap.specs.Form.{padded}
 use Rattle.keywrap.proofs.Parts.{mask-one, mask-two}

@@ -2,7 +2,7 @@
 use mathlib.Core.Path.{ap, _∙_}
 use Rattle.fips197.specs.Cipher.{cipher}
 use Rattle.aes.specs.Form.{schedule}
-use Rattle.aes.specs.declared.KeySize.the-variants.{Aes256}
+use Rattle.fips197.specs.declared.KeySize.the-variants.{Aes256}
 use Rattle.handle.specs.Wrap.{clearTop}
 use borrow.Author.Needs.{needs}
 use Rattle.keywrap.proofs.siv.tag_with.Statement.{statement}

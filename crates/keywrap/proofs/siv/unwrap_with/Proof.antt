@@ -3,7 +3,7 @@ use mathlib.Core.Path.{refl, sym, ap, _∙_}
 use Prim.Native.Nat.{ℕ}
 use lib.ListN.{take}
 use Rattle.aes.specs.Form.{bytesOf, keyBytes, schedule}
-use Rattle.aes.specs.declared.KeySize.the-variants.{Aes256}
+use Rattle.fips197.specs.declared.KeySize.the-variants.{Aes256}
 use Rattle.keywrap.specs.Form.{wholeKey}
 use Rattle.keywrap.proofs.Ends.{unwrap-opens, unwrap-refuses}
 use Rattle.keywrap.proofs.Sizes.{count, count-few, key-length, words-bytes}

@@ -2,7 +2,7 @@
 use mathlib.Core.Path.{refl}
 use Rattle.fips197.specs.Sbox.{sbox}
 use Rattle.aes.specs.Form.{bytesOf, keyBytes, schedule}
-use Rattle.aes.specs.declared.KeySize.the-variants.{Aes256}
+use Rattle.fips197.specs.declared.KeySize.the-variants.{Aes256}
 use Rattle.keywrap.proofs.Ends.{wrap-ends}
 use borrow.Author.Needs.{needs}
 use Rattle.keywrap.proofs.siv.wrap.Statement.{statement}

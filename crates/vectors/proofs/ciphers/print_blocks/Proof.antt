@@ -2,8 +2,8 @@
 -- Assumes nothing.
 use Prim.Native.Nat.{_≤_, _-_}
 use borrow.Author.Needs.{needs}
-use Rattle.vectors.proofs.fips197.print_blocks.Statement.{statement}
-use Rattle.vectors.proofs.fips197.print_blocks.Tie as tie
+use Rattle.vectors.proofs.ciphers.print_blocks.Statement.{statement}
+use Rattle.vectors.proofs.ciphers.print_blocks.Tie as tie
 
 abbrev Inv-loop : tie.InvT-loop
 Inv-loop bytes n i₀ i = i ≤ n

@@ -4,8 +4,8 @@ use mathlib.Core.Path.{_≡_}
 use Prim.Native.Nat.{_≤_, _-_}
 use lib.ListN.{length}
 use borrow.Author.Needs.{needs}
-use Rattle.vectors.proofs.fips197.eight_times.Statement.{statement}
-use Rattle.vectors.proofs.fips197.eight_times.Tie as tie
+use Rattle.vectors.proofs.ciphers.eight_times.Statement.{statement}
+use Rattle.vectors.proofs.ciphers.eight_times.Tie as tie
 
 abbrev Inv-loop : tie.InvT-loop
 Inv-loop block bytes₀ i₀ bytes i = (i ≤ 128) × (length bytes ≡ 128)

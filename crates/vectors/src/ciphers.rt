@@ -7,9 +7,9 @@ use crate::print::print_block;
 use crate::print::print_word;
 use crate::print::start;
 use aes::Block;
-use aes::KeySize;
 use aes::word::block_at;
 use aes::word::to_bytes;
+use fips197::KeySize;
 
 fn print_blocks(bytes: &[u8]) {
     let n = bytes.len() / 16;

@@ -2,8 +2,8 @@
 -- Assumes nothing.
 use Prim.Native.Nat.{_≤_, _-_}
 use borrow.Author.Needs.{needs}
-use Rattle.vectors.proofs.fips197.print_schedule.Statement.{statement}
-use Rattle.vectors.proofs.fips197.print_schedule.Tie as tie
+use Rattle.vectors.proofs.ciphers.print_schedule.Statement.{statement}
+use Rattle.vectors.proofs.ciphers.print_schedule.Tie as tie
 
 abbrev Inv-loop : tie.InvT-loop
 Inv-loop rounds w i₀ t5 i = i ≤ 60
