@@ -7,8 +7,8 @@ use Prim.Native.Nat.{ℕ, zero, suc, _+_, _*_}
 use native.Mathlib.Omega.{arith}
 use lib.ListN.{length, getD, take, drop, replicate, length-replicate}
 use lib.Seq.{sets}
-use Rattle.aes.specs.declared.Direction.the-variants.{Encrypt}
-use Rattle.aes.specs.declared.KeySize.the-variants.{Aes256}
+use Rattle.fips197.specs.declared.Direction.the-variants.{Encrypt}
+use Rattle.fips197.specs.declared.KeySize.the-variants.{Aes256}
 use Rattle.handle.specs.Format.{aad}
 use Rattle.handle.specs.Wrap.{wrapKey}
 use Rattle.handle.proofs.Aad.{aad-length}
