@@ -48,6 +48,7 @@ module _ (s : List ℕ) (at : ℕ) where
   -- an entry, and those behind it
   pub entries-read : (n : ℕ) {e : Processor} {l : List Processor} → e ≡ entryAt (drop at s) → l ≡ entriesAt n (drop (at + entrySize) s)
       → e ∷ l ≡ entriesAt (suc n) (drop at s)
+  unfolding entriesAt
   entries-read n p q =
       ap₂ (λ (e : Processor) (l : List Processor). e ∷ l) p (q ∙ ap (entriesAt n) (sym (drop-drop entrySize at s)))
 

@@ -10,7 +10,7 @@ use lib.ListN.{length, getD, set, take, length-append, drop-of-length-le}
 use lib.Seq.{sets, sets-eq, take-suc, length-take-le}
 use Rattle.bits.proofs.Lists.{sets-append}
 use Rattle.model.specs.Records.{processorLimit}
-use Rattle.model.specs.Layout.{keySize, entrySize, slotSize, platformSize, machineSize, keyBytes, entryBytes, entriesBytes, slotBytes, platformBytes, machineBytes}
+use Rattle.model.specs.Layout.{iwKeySize, entrySize, slotSize, platformSize, machineSize, keyBytes, entryBytes, entriesBytes, slotBytes, platformBytes, machineBytes}
 use Rattle.model.specs.declared.IwKey.{IwKey}
 use Rattle.model.specs.declared.Processor.{Processor}
 use Rattle.model.specs.declared.Slot.{Slot}
@@ -43,7 +43,7 @@ byte-written o l a at i h p =
 
 -- ---- an IWKey, an entry, a place for an IWKey
 
-pub key-length : (k : IwKey) → length (k .integrity) ≡ 16 → length (k .encryption) ≡ 32 → length (keyBytes k) ≡ keySize
+pub key-length : (k : IwKey) → length (k .integrity) ≡ 16 → length (k .encryption) ≡ 32 → length (keyBytes k) ≡ iwKeySize
 key-length k p q = simp length-append (omega arith)
 
 pub key-written : (o : List ℕ) (at : ℕ) (k : IwKey) {l m : List ℕ} → length (k .integrity) ≡ 16 → length (k .encryption) ≡ 32
@@ -58,12 +58,12 @@ key-written o at k {l} {m} p q e f =
     ∙ then l (at + 16) 32 (k .encryption) z q f
     ∙ then o at 16 (k .integrity) (k .encryption ++ z) p e
 
-pub entry-length : (e : Processor) → length (keyBytes (e .key)) ≡ keySize → length (entryBytes e) ≡ entrySize
+pub entry-length : (e : Processor) → length (keyBytes (e .key)) ≡ iwKeySize → length (entryBytes e) ≡ entrySize
 entry-length e h = length-append (keyBytes (e .key)) (e .«copy_status» ∷ []) ∙ omega arith
 
-pub entry-written : (o : List ℕ) (at : ℕ) (e : Processor) {l : List ℕ} → length (keyBytes (e .key)) ≡ keySize → l ≡ sets o at (keyBytes (e .key))
+pub entry-written : (o : List ℕ) (at : ℕ) (e : Processor) {l : List ℕ} → length (keyBytes (e .key)) ≡ iwKeySize → l ≡ sets o at (keyBytes (e .key))
     → set l (at + 50) (e .«copy_status») ≡ sets o at (entryBytes e)
-entry-written o at e h p = then o at keySize (keyBytes (e .key)) (e .«copy_status» ∷ []) h p
+entry-written o at e h p = then o at iwKeySize (keyBytes (e .key)) (e .«copy_status» ∷ []) h p
 
 pub slot-written : (o : List ℕ) (at : ℕ) (t : Slot) {l : List ℕ} → l ≡ sets (set o at (t .present)) (at + 1) (keyBytes (t .key)) → l ≡ sets o at (slotBytes t)
 slot-written o at t p = p ∙ ap (λ (n : ℕ). sets (set o at (t .present)) n (keyBytes (t .key))) (add-one at)
@@ -71,6 +71,7 @@ slot-written o at t p = p ∙ ap (λ (n : ℕ). sets (set o at (t .present)) n (
 -- ---- the entries
 
 entries-end : (l : List Processor) (e : Processor) → entriesBytes (l ++ (e ∷ [])) ≡ entriesBytes l ++ entryBytes e
+unfolding entriesBytes
 entries-end [] e = append-nil (entryBytes e)
 entries-end (x ∷ l) e =
     ap (λ (w : List ℕ). entryBytes x ++ w) (entries-end l e) ∙ sym (append-assoc (entryBytes x) (entriesBytes l) (entryBytes e))

@@ -63,7 +63,7 @@ fn bytes_32(s: &[u8], at: usize) -> [u8; 32]
 }
 
 fn key_at(s: &[u8], at: usize) -> IwKey
-    requires { ⌜ at + model.keySize ≤ length (now s) ⌝ }
+    requires { ⌜ at + model.iwKeySize ≤ length (now s) ⌝ }
     ensures { λ r. ⌜ r ≡ model.keyAt (drop at (now (s .entry))) ⌝ }
 {
     let integrity = bytes_16(s, at);
@@ -187,8 +187,8 @@ fn put_32(s: &mut [u8], at: usize, a: [u8; 32])
 
 // From here on each function also says how many bytes it wrote, so that its caller knows where the next run begins.
 fn put_key(s: &mut [u8], at: usize, k: IwKey)
-    requires { ⌜ at + model.keySize ≤ length (now s) ⌝ }
-    ensures { λ _. ⌜ (now (s .exit) ≡ sets (now (s .entry)) at (model.keyBytes k)) × (length (model.keyBytes k) ≡ model.keySize) ⌝ }
+    requires { ⌜ at + model.iwKeySize ≤ length (now s) ⌝ }
+    ensures { λ _. ⌜ (now (s .exit) ≡ sets (now (s .entry)) at (model.keyBytes k)) × (length (model.keyBytes k) ≡ model.iwKeySize) ⌝ }
 {
     let integrity = k.integrity;
     let encryption = k.encryption;

@@ -7,7 +7,7 @@ use native.Mathlib.Omega.{arith}
 use lib.ListN.{length, getD, take, drop, length-append, length-drop, take-append-drop, drop-of-length-le}
 use lib.Seq.{length-take-le, take-at, drop-at, getD-drop, drop-drop, drop-cons}
 use Rattle.model.specs.Records.{processorLimit}
-use Rattle.model.specs.Layout.{keySize, entrySize, slotSize, platformSize, machineSize, keyBytes, entryBytes, entriesBytes, slotBytes, platformBytes, machineBytes, keyAt, entryAt, entriesAt, slotAt, platformAt, machineAt, ShapedKey, ShapedEntries, ShapedPlatform, Shaped}
+use Rattle.model.specs.Layout.{iwKeySize, entrySize, slotSize, platformSize, machineSize, keyBytes, entryBytes, entriesBytes, slotBytes, platformBytes, machineBytes, keyAt, entryAt, entriesAt, slotAt, platformAt, machineAt, ShapedKey, ShapedEntries, ShapedPlatform, Shaped}
 use Rattle.model.specs.declared.IwKey.{IwKey}
 use Rattle.model.specs.declared.Processor.{Processor}
 use Rattle.model.specs.declared.Slot.{Slot}
@@ -16,15 +16,17 @@ use Rattle.model.specs.declared.Machine.{Machine}
 
 -- ---- the shape of what is read
 
-key-shaped : (t : List ℕ) → keySize ≤ length t → ShapedKey (keyAt t)
+key-shaped : (t : List ℕ) → iwKeySize ≤ length t → ShapedKey (keyAt t)
 key-shaped t h =
     record { integrity = length-take-le 16 t (omega arith); encryption = length-take-le 32 (drop 16 t) (simp length-drop (omega arith)) }
 
 entries-shaped : (n : ℕ) (t : List ℕ) → n * entrySize ≤ length t → ShapedEntries (entriesAt n t)
+unfolding entriesAt
 entries-shaped zero t h = tt
 entries-shaped (suc n) t h = (key-shaped t (omega arith), entries-shaped n (drop entrySize t) (simp length-drop (omega arith)))
 
 entries-count : (n : ℕ) (t : List ℕ) → length (entriesAt n t) ≡ n
+unfolding entriesAt
 entries-count zero t = refl
 entries-count (suc n) t = ap suc (entries-count n (drop entrySize t))
 
@@ -46,13 +48,14 @@ machine-shaped t h =
 
 -- ---- the length of what is written
 
-key-length : (k : IwKey) → ShapedKey k → length (keyBytes k) ≡ keySize
+key-length : (k : IwKey) → ShapedKey k → length (keyBytes k) ≡ iwKeySize
 key-length k h = simp length-append (omega arith)
 
 entry-length : (e : Processor) → ShapedKey (e .key) → length (entryBytes e) ≡ entrySize
 entry-length e h = length-append (keyBytes (e .key)) (e .«copy_status» ∷ []) ∙ omega (arith, key-length (e .key) h)
 
 entries-length : (l : List Processor) → ShapedEntries l → length (entriesBytes l) ≡ length l * entrySize
+unfolding entriesBytes
 entries-length [] h = refl
 entries-length (e ∷ l) h = length-append (entryBytes e) (entriesBytes l) ∙ omega (arith, entry-length e (h .0), entries-length l (h .1))
 
@@ -100,9 +103,10 @@ entry-back e t h =
     let z : List ℕ = e .«copy_status» ∷ t in
     ap entryAt (append-assoc (keyBytes (e .key)) (e .«copy_status» ∷ []) t)
     ∙ (λ j.
-    record { key = key-back (e .key) z h j; «copy_status» = behind (keyBytes (e .key)) z keySize 0 (key-length (e .key) h) j })
+    record { key = key-back (e .key) z h j; «copy_status» = behind (keyBytes (e .key)) z iwKeySize 0 (key-length (e .key) h) j })
 
 entries-back : (l : List Processor) (t : List ℕ) → ShapedEntries l → entriesAt (length l) (entriesBytes l ++ t) ≡ l
+unfolding entriesAt entriesBytes
 entries-back [] t h = refl
 entries-back (e ∷ l) t h =
     let r = entriesBytes l ++ t in
@@ -154,9 +158,9 @@ at-bytes m h =
 front : (t : List ℕ) (j : ℕ) {w : List ℕ} → suc j ≤ length t → w ≡ drop (suc j) t → getD t j 0 ∷ w ≡ drop j t
 front t j h e = ap (λ (w : List ℕ). getD t j 0 ∷ w) e ∙ sym (drop-cons t j 0 h)
 
-key-again : (t : List ℕ) → keySize ≤ length t → keyBytes (keyAt t) ++ drop keySize t ≡ t
+key-again : (t : List ℕ) → iwKeySize ≤ length t → keyBytes (keyAt t) ++ drop iwKeySize t ≡ t
 key-again t h =
-    key-then (keyAt t) (drop keySize t)
+    key-then (keyAt t) (drop iwKeySize t)
     ∙ ap (λ (w : List ℕ). take 16 t ++ (take 32 (drop 16 t) ++ w))
     (front t 48 (omega arith) (front t 49 (omega arith) refl) ∙ sym (drop-drop 32 16 t))
     ∙ ap (λ (w : List ℕ). take 16 t ++ w) (take-append-drop 32 (drop 16 t))
@@ -164,11 +168,12 @@ key-again t h =
 
 entry-again : (t : List ℕ) → entrySize ≤ length t → entryBytes (entryAt t) ++ drop entrySize t ≡ t
 entry-again t h =
-    append-assoc (keyBytes (keyAt t)) (getD t keySize 0 ∷ []) (drop entrySize t)
-    ∙ ap (λ (w : List ℕ). keyBytes (keyAt t) ++ w) (front t keySize (omega arith) refl)
+    append-assoc (keyBytes (keyAt t)) (getD t iwKeySize 0 ∷ []) (drop entrySize t)
+    ∙ ap (λ (w : List ℕ). keyBytes (keyAt t) ++ w) (front t iwKeySize (omega arith) refl)
     ∙ key-again t (omega arith)
 
 entries-again : (n : ℕ) (t : List ℕ) → n * entrySize ≤ length t → entriesBytes (entriesAt n t) ++ drop (n * entrySize) t ≡ t
+unfolding entriesBytes entriesAt
 entries-again zero t h = refl
 entries-again (suc n) t h =
     let r = drop entrySize t in
@@ -182,7 +187,7 @@ entries-again (suc n) t h =
 slot-again : (t : List ℕ) → slotSize ≤ length t → slotBytes (slotAt t) ++ drop slotSize t ≡ t
 slot-again t h =
     front t 0 (omega arith)
-    (ap (λ (w : List ℕ). keyBytes (keyAt (drop 1 t)) ++ w) (sym (drop-drop keySize 1 t))
+    (ap (λ (w : List ℕ). keyBytes (keyAt (drop 1 t)) ++ w) (sym (drop-drop iwKeySize 1 t))
     ∙ key-again (drop 1 t) (simp length-drop (omega arith)))
 
 platform-again : (t : List ℕ) → length t ≡ platformSize → platformBytes (platformAt t) ≡ t

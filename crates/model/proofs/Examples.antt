@@ -19,7 +19,7 @@ use Rattle.isa.specs.Ranges.{someNotCanonical, someOutside}
 use Rattle.model.specs.Records.{zeroKey}
 use Rattle.model.specs.Cpu as Cpu
 use Rattle.model.specs.Cpu.{xmmAt, xmm, register, withXmm, withRegister, withZf}
-use Rattle.model.specs.Validity.{valid}
+use Rattle.model.specs.Validity.{validProcessors, valid}
 use Rattle.model.specs.Refusals.{tests, refusal}
 use Rattle.model.specs.Instructions.{encoded, openedFor, aes, ciphered, used, loadedKey, advanced, executed}
 use Rattle.model.specs.Backup.{copyOut, settled, woken}
@@ -81,7 +81,7 @@ _also_ : {A B : Type 0} → A → B → A × B
 a also b = (a, b)
 
 pub all-hold : Every examples
-unfolding call valid refusal tests perform executed encoded used loadedKey copyOut settled woken
+unfolding call valid validProcessors refusal tests perform executed encoded used loadedKey copyOut settled woken
     decodeAt modrmOf sibOf indexOf displacementAt displacement32 instructionOf effectiveAddress someNotCanonical someOutside
 all-hold =
     -- K1

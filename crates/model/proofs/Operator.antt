@@ -15,7 +15,7 @@ use Rattle.isa.specs.Decode.{decodeAt, modrmOf, instructionOf}
 use Rattle.model.specs.Numbers.{bit}
 use Rattle.model.specs.Records.{zeroKey}
 use Rattle.model.specs.Calls.{PowerOn, ReadCall, WriteCall, Call, step, read, write, settle, sleep, reset, Answer}
-use Rattle.model.specs.Validity.{valid}
+use Rattle.model.specs.Validity.{validProcessors, valid}
 use Rattle.model.specs.Refusals.{tests, refusal}
 use Rattle.model.specs.Instructions.{loadedKey, executed}
 use Rattle.model.specs.Backup.{copyOut, settled}
@@ -180,7 +180,7 @@ ruleRead address = record { processor = 1; cpl = 0; address = address }
 
 pub rule-met : OperatorRule two (run (powerOn two .machine) (ruleCalls ruleFirst ruleWrite (ruleRead 0x990) (settling 0 ∷ []) (ruleRead 0x991)))
     ruleFirst ruleWrite (ruleRead 0x990) (settling 0 ∷ []) (ruleRead 0x991)
-unfolding call valid refusal tests perform executed loadedKey copyOut settled moved copiedOut settledNames decodeAt modrmOf instructionOf
+unfolding call valid refusal tests perform executed loadedKey copyOut settled moved copiedOut settledNames decodeAt modrmOf instructionOf validProcessors
 rule-met =
     record {
       one = refl;

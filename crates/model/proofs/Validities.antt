@@ -40,6 +40,7 @@ zero-processor true = tt
 zero-processor false = tt
 
 zero-processors : (count i n : ℕ) → T (validProcessors count i (replicate n zeroProcessor))
+unfolding validProcessors
 zero-processors count i zero = tt
 zero-processors count i (suc n) =
     and-both (validProcessor (ltb i count) zeroProcessor) (validProcessors count (suc i) (replicate n zeroProcessor))
@@ -47,6 +48,7 @@ zero-processors count i (suc n) =
 
 -- processor p, counted from the list's first, which has number i
 processor-in : (count i : ℕ) (l : List Processor) (p : ℕ) → T (validProcessors count i l) → i + p < count → T (validProcessor true (getD l p noProcessor))
+unfolding validProcessors
 processor-in count i [] p t h = tt
 processor-in count i (e ∷ l) zero t h =
     let q : i < count = omega arith in
@@ -57,6 +59,7 @@ processor-in count i (e ∷ l) (suc p) t h =
 
 processors-set : (count i : ℕ) (l : List Processor) (p : ℕ) (x : Processor) → T (validProcessors count i l) → i + p < count → T (validProcessor true x)
     → T (validProcessors count i (set l p x))
+unfolding validProcessors
 processors-set count i [] p x t h v = t
 processors-set count i (e ∷ l) zero x t h v =
     let q : i < count = omega arith in

@@ -14,16 +14,16 @@ use Rattle.model.specs.declared.Machine.{Machine}
 
 -- ---- sizes
 
-abbrev pub keySize : ℕ
-keySize = 16 + 32 + 1 + 1
+abbrev pub iwKeySize : ℕ
+iwKeySize = 16 + 32 + 1 + 1
 
 -- "16 entries of integrity key, encryption key, source, NoBackup, copy status"
 abbrev pub entrySize : ℕ
-entrySize = keySize + 1
+entrySize = iwKeySize + 1
 
 -- "each a presence byte and an IWKey"
 abbrev pub slotSize : ℕ
-slotSize = 1 + keySize
+slotSize = 1 + iwKeySize
 
 -- "backup, then store, ..; pending, valid, error, consumed"
 abbrev pub platformSize : ℕ
@@ -41,7 +41,7 @@ keyBytes k = k .integrity ++ (k .encryption ++ (k .source ∷ k .«no_backup» �
 abbrev pub entryBytes : Processor → List ℕ
 entryBytes e = keyBytes (e .key) ++ (e .«copy_status» ∷ [])
 
-abbrev pub entriesBytes : List Processor → List ℕ
+unfoldable pub entriesBytes : List Processor → List ℕ
 entriesBytes [] = []
 entriesBytes (e ∷ l) = entryBytes e ++ entriesBytes l
 
@@ -60,10 +60,10 @@ abbrev pub keyAt : List ℕ → IwKey
 keyAt t = record { integrity = take 16 t; encryption = part 32 16 t; source = getD t (16 + 32) 0; «no_backup» = getD t (16 + 32 + 1) 0 }
 
 abbrev pub entryAt : List ℕ → Processor
-entryAt t = record { key = keyAt t; «copy_status» = getD t keySize 0 }
+entryAt t = record { key = keyAt t; «copy_status» = getD t iwKeySize 0 }
 
 -- n entries
-abbrev pub entriesAt : ℕ → List ℕ → List Processor
+unfoldable pub entriesAt : ℕ → List ℕ → List Processor
 entriesAt zero t = []
 entriesAt (suc n) t = entryAt t ∷ entriesAt n (drop entrySize t)
 

@@ -35,7 +35,7 @@ abbrev pub validProcessor : Bool → Processor → Bool
 validProcessor below e = cond below (validKey (e .key) && flag (e .«copy_status»)) (isZeroKey (e .key) && eqb (e .«copy_status») 0)
 
 -- the processors from number i on
-abbrev pub validProcessors : ℕ → ℕ → List Processor → Bool
+unfoldable pub validProcessors : ℕ → ℕ → List Processor → Bool
 validProcessors count i [] = true
 validProcessors count i (e ∷ l) = validProcessor (ltb i count) e && validProcessors count (suc i) l
 

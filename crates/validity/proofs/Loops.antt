@@ -27,6 +27,7 @@ zero-last a z i h = sym (ap (λ (l : List ℕ). z && allZero l) (drop-of-length-
 -- processors
 valid-step : (count : ℕ) (l : List Processor) (i : ℕ) → i < length l
     → validProcessors count i (drop i l) ≡ validProcessor (ltb i count) (getD l i noProcessor) && validProcessors count (i + 1) (drop (i + 1) l)
+unfolding validProcessors
 valid-step count l i h = rw (add-one, drop-cons l i noProcessor)
 
 pub valid-next : (count : ℕ) (l : List Processor) (z : Bool) (i : ℕ) → i < length l
@@ -36,4 +37,5 @@ valid-next count l z i h =
     ∙ ap (λ (b : Bool). z && b) (sym (valid-step count l i h))
 
 pub valid-last : (count : ℕ) (l : List Processor) (z : Bool) (i : ℕ) → length l ≤ i → z ≡ z && validProcessors count i (drop i l)
+unfolding validProcessors
 valid-last count l z i h = sym (ap (λ (m : List Processor). z && validProcessors count i m) (drop-of-length-le l h) ∙ and-true z)

@@ -2,6 +2,7 @@
 -- Assumes nothing.
 use mathlib.Core.Path.{refl}
 use lib.Dec.{lit<}
+use Rattle.model.specs.Layout.{entriesAt}
 use Rattle.layout.proofs.Read.{entries-read}
 use Rattle.layout.proofs.entries.Statement.{statement}
 use Rattle.layout.proofs.entries.Tie as tie
@@ -55,6 +56,7 @@ entry-number-requires-16 : tie.Need-entry-number-requires-16
 entry-number-requires-16 c κs = (c .before .before .before .before .before .before .before .before .before .before .before .before .before .before .before .before .pre, lit< tt)
 
 returns : tie.Need-returns
+unfolding entriesAt
 returns c =
     let c15 = c .before in
     let c14 = c15 .before in

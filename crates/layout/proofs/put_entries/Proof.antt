@@ -26,6 +26,7 @@ abbrev μ-loop : tie.MeasureT-loop
 μ-loop s₀ at l i₀ s i = 16 - i
 
 loop-holds : tie.Need-loop-holds Inv-loop μ-loop
+unfolding entriesBytes
 loop-holds c = (search needs, search needs, refl, refl, refl)
 
 mul-e : tie.Need-mul-e Inv-loop μ-loop
