@@ -29,12 +29,6 @@ use Rattle.isa.specs.declared.Operands.the-variants as operands
 use Rattle.isa.specs.declared.Decoded.{Decoded}
 use Rattle.isa.specs.declared.Decoded.the-variants as decoded
 
--- the number of a refusal (the scope, "Turned back"): 8 for a byte that no instruction has there, 9 where the string ends inside an instruction
-abbrev pub refusal : Decoded → ℕ
-refusal (decoded.Found what lock next) = 0
-refusal decoded.BadByte = 8
-refusal decoded.EndOfString = 9
-
 -- the scope, "Instruction strings": the byte at a position, if there is one
 abbrev pub byteAt : List ℕ → ℕ → Step
 byteAt s at = cond (ltb at (length s)) (step.Byte (getD s at 0) (at + 1)) step.End

@@ -22,9 +22,10 @@ use Rattle.model.specs.Records.{zeroKey}
 use Rattle.model.specs.declared.IwKey.{IwKey}
 use Rattle.model.proofs.Lent.{power-on-lent, demand-3-lent, status-registers-lent}
 use Rattle.model.proofs.Operator.{operator-rule}
-use Rattle.keylocker.specs.Promises.{answer, gave, ReadPromise}
+use Rattle.keylocker.specs.Form.{called}
+use Rattle.keylocker.specs.Promises.{answer, gave, PowerOnPromise, ReadPromise}
 use Rattle.keylocker.specs.Executions.{Chain, ended, stepped, didRead, wrote, settled, slept, wasReset, Execution}
-use Rattle.keylocker.proofs.Finishing.{cpuOf, valueOf, answer-as, promised, read-block, read-value, read-promised}
+use Rattle.keylocker.proofs.Finishing.{power-on-promised, cpuOf, valueOf, answer-as, promised, read-block, read-value, read-promised}
 
 -- ---- what is promised is what the model's calls give, one after another
 
@@ -152,15 +153,11 @@ run-block block [] = refl
 run-block block (c ∷ l) = run-block (callLent block c .block) l
 
 module _ (block : List ℕ) (p : PowerOn) (size : length block ≡ machineSize) (ok : powerOn p .answer .number ≡ 0) where
-  refusal-told : powerOn p .answer .number ≡ powerOnRefusal p
-  refusal-told =
-      on-cond (λ (o : Outcome). o .answer .number ≡ powerOnRefusal p) (eqb (powerOnRefusal p) 0) _ _ (λ e. sym (eqb-true (powerOnRefusal p) 0 e)) (λ e. refl)
-
-  powers : powerOnLent block p .answer .number ≡ 0
-  powers =
-      ap (λ (t : Bool). first (test 1 (not (t && validCount (p .count) && validFeatures (p .features))) ∷ []))
-      (eq-eqb (length block) machineSize size)
-      ∙ sym refusal-told ∙ ok
+  on-lent : PowerOnPromise block p (powerOnLent block p .block) 0
+  unfolding powerOnLent
+  on-lent =
+      power-on-promised block p (powerOnLent block p .block) 0
+      (λ j. called (sym (ap (λ (x : Lent). x .answer .number) (cond-on (eq-eqb (length block) machineSize size) _ _) ∙ ok) j) (powerOnLent block p .block))
 
   -- the value that a read finds before it is any
   pub execution-exists : (calls : List Call) (old : ℕ) → Execution p calls (runLent (powerOnLent block p .block) calls)
@@ -169,7 +166,7 @@ module _ (block : List ℕ) (p : PowerOn) (size : length block ≡ machineSize) 
         lent = block;
         first = powerOnLent block p .block;
         last = blockAfter (powerOnLent block p .block) calls;
-        on = λ j. gave (powerOnLent block p .block) (sym powers j) [] 0;
+        on = on-lent;
         chain = chain-of (powerOnLent block p .block) old calls;
         machine = run-block (powerOnLent block p .block) calls;
       }

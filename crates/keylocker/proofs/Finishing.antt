@@ -12,9 +12,9 @@ use Rattle.bits.proofs.Choice.{cond-on, cond-off, on-cond}
 use Rattle.model.specs.Calls.{PowerOn, StepCall, ReadCall, Call, step, read, write, settle, sleep, reset}
 use Rattle.model.specs.Calls as model
 use Rattle.model.specs.Validity.{validCount, validFeatures}
-use Rattle.model.specs.Execution.{fresh, refused, perform, numberOf, call, powerOn}
+use Rattle.model.specs.Execution.{powerOnRefusal, refused, perform, numberOf, call, powerOn}
 use Rattle.model.specs.Layout.{machineSize, machineBytes, machineAt}
-use Rattle.model.specs.Lent.{Lent, powerOnLent, callLent}
+use Rattle.model.specs.Lent.{Lent, into, wrongSize, powerOnLent, callLent}
 use Rattle.model.specs.declared.Machine.{Machine}
 use Rattle.model.proofs.Bytes.{bytes-at}
 use Rattle.model.proofs.Frames.{by-number, read-kept}
@@ -114,42 +114,30 @@ module _ (block : List ℕ) (c : Call) where
 -- ---- power-on
 
 module _ (block : List ℕ) (p : PowerOn) where
-  -- what it gives, by the length and by what it is given
-  given : Bool → Bool → Called
-  given l v = called (cond (not (l && v)) 1 0) (cond (eqb (cond (not (l && v)) 1 0) 0) (machineBytes (fresh (p .count) (p .features))) block)
+  -- no CPU record, no value
+  power-on-as : powerOnLent block p .answer ≡ answer (powerOnLent block p .answer .number) [] 0
+  unfolding powerOnLent
+  power-on-as =
+      let P : model.Answer → Type 0 = λ a. a ≡ answer (a .number) [] 0 in
+      on-cond (λ (x : Lent). P (x .answer)) (eqb (length block) machineSize) (into block (powerOn p)) (wrongSize block [])
+      (λ e. on-cond (λ (o : model.Outcome). P (o .answer)) (eqb (powerOnRefusal p) 0) _ _ (λ f. refl) (λ f. refl)) (λ e. refl)
 
-  abbrev accepted : Bool
-  accepted = validCount (p .count) && validFeatures (p .features)
-
-  power-on-given : calledOf (powerOnLent block p) ≡ given (eqb (length block) machineSize) accepted
-  unfolding given
-  power-on-given = ap (λ (t : Bool). called (cond (not t) 1 0) (cond (eqb (cond (not t) 1 0) 0) (machineBytes (fresh (p .count) (p .features))) block))
-      (and-assoc (eqb (length block) machineSize) (validCount (p .count)) (validFeatures (p .features)))
-
-  power-on-promised : (after : List ℕ) (n : ℕ) → called n after ≡ calledOf (powerOnLent block p) → PowerOnPromise block p after n
-  power-on-promised after n e = λ j. gave (e j .block) (e j .number) [] 0
+  pub power-on-promised : (after : List ℕ) (n : ℕ) → called n after ≡ calledOf (powerOnLent block p) → PowerOnPromise block p after n
+  power-on-promised after n e =
+      (λ j. gave (e j .block) (e j .number) [] 0) ∙ (λ j. record { block = powerOnLent block p .block; answer = sym power-on-as j })
 
   pub power-on-short : (length block ≡ machineSize → ⊥) → PowerOnPromise block p block 1
-  unfolding given
+  unfolding powerOnLent
   power-on-short h =
-      power-on-promised block 1 (sym (power-on-given ∙ ap (λ (t : Bool). given t accepted) (ne-eqb (length block) machineSize h)))
+      power-on-promised block 1 (sym (ap calledOf (cond-off (ne-eqb (length block) machineSize h) (into block (powerOn p)) (wrongSize block []))))
 
   pub power-on-called : (after : List ℕ) (n : ℕ) (o : Outcome) → length block ≡ machineSize → o ≡ outcomeOf (powerOn p) → called n after ≡ finished block o
       → PowerOnPromise block p after n
-  unfolding given
+  unfolding powerOnLent
   power-on-called after n o h e f =
       power-on-promised after n
-      (f ∙ ap (finished block) e ∙ by accepted
-      ∙ sym (power-on-given ∙ ap (λ (t : Bool). given t accepted) (eq-eqb (length block) machineSize h)))
-    where
-      power : Bool → model.Outcome
-      power t =
-          cond (eqb (cond (not t) 1 0) 0) (record { machine = fresh (p .count) (p .features); answer = answer 0 [] 0 })
-          (record { machine = fresh 0 0; answer = answer (cond (not t) 1 0) [] 0 })
-
-      by : (t : Bool) → finished block (outcomeOf (power t)) ≡ given true t
-      by true = refl
-      by false = refl
+      (f ∙ ap (finished block) e ∙ finished-of block (powerOn p)
+      ∙ sym (ap calledOf (cond-on (eq-eqb (length block) machineSize h) (into block (powerOn p)) (wrongSize block []))))
 
 -- ---- a read
 

@@ -5,6 +5,7 @@ use Prim.Native.Nat.{ℕ}
 use Rattle.model.specs.Lent.{Lent}
 use Rattle.model.specs.Layout.{machineBytes}
 use Rattle.model.specs.declared.Machine.{Machine}
+use Rattle.machine.specs.Form.{numberOf}
 use Rattle.machine.specs.declared.Answer.{Answer}
 use Rattle.machine.specs.declared.Answer.the-variants.{Done, Refused}
 use Rattle.machine.specs.declared.Outcome.{Outcome}
@@ -22,9 +23,12 @@ abbrev pub calledOf : Lent → Called
 calledOf l = called (l .answer .number) (l .block)
 
 -- the machine of an outcome goes back into its bytes, unless the call was refused
+abbrev pub blockLeft : List ℕ → Machine → Answer → List ℕ
+blockLeft block m Done = machineBytes m
+blockLeft block m (Refused n) = block
+
 abbrev pub answered : List ℕ → Machine → Answer → Called
-answered block m Done = called 0 (machineBytes m)
-answered block m (Refused n) = called n block
+answered block m a = called (numberOf a) (blockLeft block m a)
 
 abbrev pub finished : List ℕ → Outcome → Called
 finished block o = answered block (o .machine) (o .answer)
@@ -35,6 +39,9 @@ pub record ReadCalled : Type 0 where
   pub number : ℕ
   pub value : ℕ
 
+abbrev pub valueLeft : ℕ → ℕ → Answer → ℕ
+valueLeft old v Done = v
+valueLeft old v (Refused n) = old
+
 abbrev pub readAnswered : ℕ → ℕ → Answer → ReadCalled
-readAnswered old v Done = record { number = 0; value = v }
-readAnswered old v (Refused n) = record { number = n; value = old }
+readAnswered old v a = record { number = numberOf a; value = valueLeft old v a }

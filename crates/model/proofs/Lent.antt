@@ -1,7 +1,7 @@
 -- The calls on lent bytes are the calls on the machine in them.
 -- Assumes nothing.
 use mathlib.Core.Path.{_≡_, refl, sym, ap, subst, _∙_}
-use mathlib.Core.Bool.{Bool, true, false, cond, not, _&&_}
+use mathlib.Core.Bool.{cond}
 use mathlib.Core.List.{List, [], _∷_}
 use Prim.Native.Nat.{ℕ}
 use native.Mathlib.Nat.{suc-ne-zero}
@@ -9,14 +9,12 @@ use lib.Dec.{eqb}
 use lib.ListN.{length}
 use borrow.Author.Tests.{eqb-true, eqb-false, eq-eqb, ne-eqb}
 use Rattle.bits.proofs.Choice.{cond-on, cond-off, on-cond}
-use Rattle.model.specs.Calls.{PowerOn, Call, Outcome}
-use Rattle.model.specs.Validity.{validCount, validFeatures}
-use Rattle.model.specs.Refusals.{test, first}
-use Rattle.model.specs.Execution.{fresh, powerOnRefusal, done, powerOn, call, Run, run}
+use Rattle.model.specs.Calls.{PowerOn, Call, lentCpu, Outcome}
+use Rattle.model.specs.Execution.{powerOn, call, Run, run}
 use Rattle.model.specs.Demand3.{Demand3}
 use Rattle.model.specs.Status.{StatusRegisters}
 use Rattle.model.specs.Layout.{machineSize, machineBytes, machineAt, Shaped}
-use Rattle.model.specs.Lent.{Lent, powerOnLentRefusal, powerOnLent, callLent, runLent}
+use Rattle.model.specs.Lent.{Lent, into, wrongSize, powerOnLent, callLent, runLent}
 use Rattle.model.specs.declared.Machine.{Machine}
 use Rattle.model.proofs.Bytes.{bytes-length, at-bytes}
 use Rattle.model.proofs.Frames.{refused-kept}
@@ -48,11 +46,8 @@ pub call-lent : (m : Machine) (c : Call) → Shaped m
 unfolding callLent
 call-lent m c h =
     let b = machineBytes m in
-    let of : Machine → Lent =
-    λ x.
-    record { block = cond (eqb (call x c .answer .number) 0) (machineBytes (call x c .machine)) b; answer = call x c .answer } in
-    cond-on (eq-eqb (length b) machineSize (bytes-length m h)) (of (machineAt b)) _
-    ∙ ap of (at-bytes m h)
+    cond-on (eq-eqb (length b) machineSize (bytes-length m h)) (into b (call (machineAt b) c)) (wrongSize b (lentCpu c))
+    ∙ ap (λ (x : Machine). into b (call x c)) (at-bytes m h)
     ∙ (λ j. record { block = block-after m c j; answer = call m c .answer })
 
 pub run-lent : (calls : List Call) (m : Machine) → Shaped m → runLent (machineBytes m) calls ≡ run m calls
@@ -66,18 +61,14 @@ run-lent (c ∷ l) m h =
 
 pub power-on-lent : (block : List ℕ) (p : PowerOn) → powerOnLent block p .answer .number ≡ 0
     → (length block ≡ machineSize) × (powerOnLent block p .block ≡ machineBytes (powerOn p .machine)) × (powerOn p .answer .number ≡ 0)
-power-on-lent block p e =
-    let r = allowed (eqb (length block) machineSize) (validCount (p .count)) (validFeatures (p .features)) e in
-    let q : powerOn p ≡ done (fresh (p .count) (p .features)) [] 0 = cond-on (eq-eqb (powerOnRefusal p) 0 (r .1)) _ _ in (
-      eqb-true (length block) machineSize (r .0),
-      cond-on (eq-eqb (powerOnLentRefusal block p) 0 e) _ block ∙ ap (λ (o : Outcome). machineBytes (o .machine)) (sym q),
-      ap (λ (o : Outcome). o .answer .number) q,
-    )
-  where
-    -- refused for neither the length nor what the machine would be refused for
-    allowed : (a b c : Bool) → first (test 1 (not (a && b && c)) ∷ []) ≡ 0 → (a ≡ true) × (first (test 1 (not (b && c)) ∷ []) ≡ 0)
-    allowed true b c e = (refl, e)
-    allowed false b c e = absurd (suc-ne-zero 0 e)
+unfolding powerOnLent
+power-on-lent block p =
+    on-cond
+    (λ (x : Lent).
+    x .answer .number ≡ 0 → (length block ≡ machineSize) × (x .block ≡ machineBytes (powerOn p .machine)) × (powerOn p .answer .number ≡ 0))
+    (eqb (length block) machineSize) (into block (powerOn p)) (wrongSize block [])
+    (λ t e. (eqb-true (length block) machineSize t, cond-on (eq-eqb (powerOn p .answer .number) 0 e) (machineBytes (powerOn p .machine)) block, e))
+    (λ t e. absurd (suc-ne-zero 0 e))
 
 -- ---- a power-on and calls on one lent block
 

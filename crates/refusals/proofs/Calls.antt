@@ -20,15 +20,7 @@ use Rattle.model.specs.Refusals.{View, Test, test, first, of, ofDecoded, badByt
 use Rattle.refusals.specs.Parts.{operandTests, instructionTests, recordTests}
 use Rattle.refusals.proofs.Ways.{met, passed}
 
--- ---- settle, sleep, the backup registers
-
-pub settle-tests : (v : View) (s : SettleCall) → refusal v (settle s) ≡ cond (leb 2 (s .code)) 2 0
-unfolding refusal tests
-settle-tests v s = refl
-
-pub sleep-tests : (v : View) (s : SleepCall) → refusal v (sleep s) ≡ cond (leb 3 (s .code)) 2 0
-unfolding refusal tests
-sleep-tests v s = refl
+-- ---- the backup registers
 
 pub read-tests : (v : View) (r : ReadCall)
     → refusal v (read r) ≡ cond (leb (v .count) (r .processor)) 3 (cond (ltb 3 (r .cpl)) 5 (cond (registerFault (v .features) (read r)) 12 0))

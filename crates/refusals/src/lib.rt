@@ -1,4 +1,4 @@
-// The scope, "Turned back": the tests 2 to 14, in its order. Each function gives the number of the first of its tests that holds, or 0.
+// The scope, "Turned back": the tests 3 to 14, in its order. Each function gives the number of the first of its tests that holds, or 0.
 ghost use mathlib.Core.Path.{_≡_};
 ghost use mathlib.Core.Bool.{cond};
 ghost use Prim.Native.Nat.{_<_};
@@ -8,7 +8,7 @@ ghost use Rattle.isa.specs.Decode.{decode};
 ghost use Rattle.model.specs.Numbers as model;
 ghost use Rattle.model.specs.Cpu.{cpuSize};
 ghost use Rattle.model.specs.Forms.{handleAddress};
-ghost use Rattle.model.specs.Calls.{StepCall, step, read, write, settle, sleep};
+ghost use Rattle.model.specs.Calls.{StepCall, step, read, write};
 ghost use Rattle.model.specs.Refusals.{View, first, refusal, needsFirmware, needsWide, invalidOpcode, noMath, loadFault, encodeFault, noRegisters};
 ghost use Rattle.refusals.specs.Parts.{segmentNumber, handleTests, operandTests, instructionTests, recordTests};
 use address::effective_address;
@@ -322,24 +322,4 @@ pub fn write_refusal(
         | !((address == 0xD91) | (address == 0xD92))
         | (1 < value);
     register_refusal(count, processor, cpl, fault)
-}
-
-// ---- 2
-
-pub fn settle_refusal(code: u8) -> u8
-    ensures { λ r. ⌜ ((v : View) → r ≡ refusal v (settle (record { code = code }))) ⌝ }
-{
-    if 2 <= code {
-        return 2;
-    }
-    0
-}
-
-pub fn sleep_refusal(code: u8) -> u8
-    ensures { λ r. ⌜ ((v : View) → r ≡ refusal v (sleep (record { code = code }))) ⌝ }
-{
-    if 3 <= code {
-        return 2;
-    }
-    0
 }
