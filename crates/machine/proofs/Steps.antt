@@ -12,11 +12,11 @@ use lib.ListN.{length, getD, set, replicate}
 use borrow.Author.Tests.{eqb-true, ne-eqb}
 use Rattle.bits.proofs.Choice.{cond-off, true-T}
 use Rattle.isa.specs.Decode.{decode}
-use Rattle.model.specs.Calls.{StepCall, ReadCall, WriteCall, Call, step, read, write, processorOf}
+use Rattle.model.specs.Calls.{StepCall, ReadCall, WriteCall, Call, step, read, write}
 use Rattle.model.specs.Cpu.{cpuSize}
 use Rattle.model.specs.Records.{processorAt, noProcessor, withKey, withProcessors, withProcessor, withPlatform}
 use Rattle.model.specs.Validity.{valid}
-use Rattle.model.specs.Refusals.{randomLength, refusal}
+use Rattle.model.specs.Refusals.{View, randomLength, operands, stepRefusal, refusal}
 use Rattle.isa.specs.declared.Decoded.{Decoded}
 use Rattle.isa.specs.declared.Decoded.the-variants as decoded
 use Rattle.model.specs.Instructions.{Executed, stepped, executed}
@@ -25,15 +25,24 @@ use Rattle.model.specs.Backup.{Copied, registerRead, written}
 use Rattle.model.specs.Execution.{viewOf, refused, perform, call}
 use Rattle.model.specs.declared.Machine.{Machine}
 use Rattle.model.specs.declared.Processor.{Processor}
-use Rattle.model.proofs.Refusals.{processor-below}
+use Rattle.model.proofs.Refusals.{processor-below, step-asked}
 use Rattle.model.proofs.Validities.{count-few}
 use Rattle.machine.specs.Form.{outcomeOf, steppedOf}
 use Rattle.machine.specs.declared.Answer.the-variants.{Done, Refused}
 use Rattle.machine.specs.declared.Stepped.{Stepped}
 use Rattle.machine.proofs.Calls.{answer-refused, performed, doneWith}
 
+-- the refusal of a step, once its string is decoded
+pub step-told : (v : View) (s : StepCall) (n : ℕ) (d : Decoded)
+    → n ≡ stepRefusal v (record { processor = s .processor; cpu = s .cpu; memory = length (s .memory); random = length (s .random); decoded = d })
+    → d ≡ decode (s .string) → n ≡ refusal v (step s)
+step-told v s n d e q =
+    e
+    ∙ ap (λ (x : Decoded). stepRefusal v (record { processor = s .processor; cpu = s .cpu; memory = length (s .memory); random = length (s .random); decoded = x })) q
+    ∙ step-asked v s
+
 -- the processor of a call that is not refused has a number below 16
-pub below-16 : (m : Machine) (c : Call) (p : ℕ) → valid m ≡ true → refusal (viewOf m) c ≡ 0 → processorOf c ≡ some p → p % 16 ≡ p
+pub below-16 : (m : Machine) (c : Call) (p : ℕ) → valid m ≡ true → refusal (viewOf m) c ≡ 0 → operands c .processor ≡ some p → p % 16 ≡ p
 below-16 m c p v a e =
     let few = count-few m (true-T (valid m) v) in
     let below = processor-below (viewOf m) c p a e in

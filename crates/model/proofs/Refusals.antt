@@ -13,9 +13,9 @@ use Rattle.isa.specs.Decode.{decode}
 use Rattle.isa.specs.declared.Decoded.the-variants as decoded
 use Rattle.isa.specs.declared.Instruction.{Instruction}
 use Rattle.model.specs.Cpu.{cpuSize}
-use Rattle.model.specs.Forms.{Form, formOf}
-use Rattle.model.specs.Calls.{StepCall, Call, step, processorOf}
-use Rattle.model.specs.Refusals.{View, Test, first, of, ofDecoded, ofInstruction, unknownCode, memoryLimit, randomLength, instructionFault, outside, tests, refusal}
+use Rattle.model.specs.Forms.{Form, formOf, handleAddress}
+use Rattle.model.specs.Calls.{StepCall, Call, step}
+use Rattle.model.specs.Refusals.{View, Test, first, of, ofDecoded, ofInstruction, ofHandle, memoryLimit, randomLength, instructionFault, outside, tests, asked, operands, stepRefusal, refusal}
 
 -- none of the tests holds
 abbrev pub Clear : List Test → Type 0
@@ -47,22 +47,27 @@ first-clear (t ∷ l) h e =
     off true n r h e = absurd (subst (λ (k : ℕ). T (not (eqb k 0))) e h)
     off false n r h e = (refl, e)
 
-pub passes : (v : View) (c : Call) → refusal v c ≡ 0 → Clear (tests v c)
+pub passes : (v : View) (c : Call) → refusal v c ≡ 0 → Clear (tests v (operands c))
 unfolding refusal tests
-passes v c e = first-clear (tests v c) tt e
+passes v c e = first-clear (tests v (operands c)) tt e
 
 pub never-1 : (v : View) (c : Call) → T (not (eqb (refusal v c) 1))
 unfolding refusal tests
-never-1 v c = first-is (λ n. not (eqb n 1)) (tests v c) tt tt
+never-1 v c = first-is (λ n. not (eqb n 1)) (tests v (operands c)) tt tt
+
+-- that of a step is that of what is looked at in it
+pub step-asked : (v : View) (s : StepCall) → stepRefusal v (asked s) ≡ refusal v (step s)
+unfolding refusal
+step-asked v s = refl
 
 -- ---- what a call that is not refused tells
 
-pub processor-below : (v : View) (c : Call) (p : ℕ) → refusal v c ≡ 0 → processorOf c ≡ some p → p < v .count
+pub processor-below : (v : View) (c : Call) (p : ℕ) → refusal v c ≡ 0 → operands c .processor ≡ some p → p < v .count
 unfolding tests
 processor-below v c p e q =
     leb-false (v .count) p (sym (ap (of (leb (v .count))) q) ∙ passes v c e .1 .0)
 
-pub code-known : (v : View) (c : Call) → refusal v c ≡ 0 → unknownCode c ≡ false
+pub code-known : (v : View) (c : Call) → refusal v c ≡ 0 → operands c .unknownCode ≡ false
 unfolding tests
 code-known v c e = passes v c e .0
 
@@ -85,14 +90,14 @@ module _ (v : View) (s : StepCall) (accepted : refusal v (step s) ≡ 0) where
   unfolding tests
   no-fault what lock bytes q =
       sym (ap (ofDecoded (λ i lock bytes. instructionFault (v .features) (s .cpu) i bytes)) q)
-      ∙ sym (or-false (ofInstruction (λ s i lock bytes. instructionFault (v .features) (s .cpu) i bytes) (step s)))
+      ∙ sym (or-false (ofInstruction (λ a i lock bytes. instructionFault (v .features) (a .cpu) i bytes) (operands (step s))))
       ∙ passes v (step s) accepted .1 .1 .1 .1 .1 .1 .1 .1 .1 .1 .0
 
   -- refusal 14
   pub handle-inside : (what : Instruction) (lock : Bool) (bytes : ℕ) (f : Form) → decode (s .string) ≡ decoded.Found what lock bytes → formOf what ≡ some f
-      → outside (length (s .memory)) (s .cpu) bytes f ≡ false
+      → outside (length (s .memory)) (handleAddress (s .cpu) bytes (f .handle)) (f .size) ≡ false
   unfolding tests
   handle-inside what lock bytes f q r =
-      sym (ap (of (outside (length (s .memory)) (s .cpu) bytes)) r)
-      ∙ sym (ap (ofDecoded (λ i lock bytes. of (outside (length (s .memory)) (s .cpu) bytes) (formOf i))) q)
+      sym (ap (of (λ u. outside (length (s .memory)) (handleAddress (s .cpu) bytes (u .handle)) (u .size))) r)
+      ∙ sym (ap (ofDecoded (λ i lock bytes. ofHandle (outside (length (s .memory))) (s .cpu) bytes i)) q)
       ∙ passes v (step s) accepted .1 .1 .1 .1 .1 .1 .1 .1 .1 .1 .1 .1 .0

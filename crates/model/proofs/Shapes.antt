@@ -23,9 +23,9 @@ use Rattle.model.specs.Numbers.{bit, part}
 use Rattle.model.specs.Records.{processorLimit, zeroKey, zeroProcessor, noProcessor, processorAt, withKey, withPending, withConsumed, withProcessor, withPlatform}
 use Rattle.model.specs.Cpu.{cpuSize, xmmAt, xmm}
 use Rattle.model.specs.Forms.{registerOf, keySource, notReady}
-use Rattle.model.specs.Calls.{StepCall, Call, step, read, write, settle, sleep, reset, processorOf}
+use Rattle.model.specs.Calls.{StepCall, Call, step, read, write, settle, sleep, reset}
 use Rattle.model.specs.Validity.{valid}
-use Rattle.model.specs.Refusals.{randomLength, refusal}
+use Rattle.model.specs.Refusals.{randomLength, operands, refusal}
 use Rattle.model.specs.Instructions.{Executed, plainKey, mixedWith, loadedKey, load, execute, stepped, executed}
 use Rattle.model.specs.Backup.{Copied, copyOut, copyIn, written, settled, storeKept, woken}
 use Rattle.model.specs.Execution.{fresh, zeroPlatform, viewOf, perform, call}
@@ -69,7 +69,7 @@ at-shaped (e ∷ l) zero d b h = h .0
 at-shaped (e ∷ l) (suc p) d b h = at-shaped l p d (le-of-suc-le-suc b) (h .1)
 
 -- the IWKey of its processor has its lengths; past the last processor stands one that has not
-processor-shaped : (m : Machine) (c : Call) (p : ℕ) → processorOf c ≡ some p → T (valid m) → refusal (viewOf m) c ≡ 0 → Shaped m
+processor-shaped : (m : Machine) (c : Call) (p : ℕ) → operands c .processor ≡ some p → T (valid m) → refusal (viewOf m) c ≡ 0 → Shaped m
     → ShapedKey (processorAt m p .key)
 processor-shaped m c p e v a h =
     at-shaped (m .processors) p noProcessor (omega (arith, processor-below (viewOf m) c p a e, count-few m v, h .count)) (h .processors)

@@ -3,7 +3,6 @@
 use mathlib.Core.List.{List, []}
 use mathlib.Core.Option.{Option, none, some}
 use Prim.Native.Nat.{ℕ}
-use Rattle.model.specs.Cpu.{cpl}
 use Rattle.model.specs.declared.Machine.{Machine}
 
 -- what power-on is given (the scope, "Records")
@@ -47,15 +46,7 @@ pub data Call : Type 0 where
   sleep : SleepCall → Call
   reset : Call
 
--- ---- what a call has of each argument
-
-abbrev pub processorOf : Call → Option ℕ
-processorOf (step s) = some (s .processor)
-processorOf (read r) = some (r .processor)
-processorOf (write w) = some (w .processor)
-processorOf (settle s) = none
-processorOf (sleep s) = none
-processorOf reset = none
+-- ---- what a call has, or lacks
 
 abbrev pub stepOf : Call → Option StepCall
 stepOf (step s) = some s
@@ -64,15 +55,6 @@ stepOf (write w) = none
 stepOf (settle s) = none
 stepOf (sleep s) = none
 stepOf reset = none
-
--- the CPL of a step stands in its CPU record
-abbrev pub cplOf : Call → Option ℕ
-cplOf (step s) = some (cpl (s .cpu))
-cplOf (read r) = some (r .cpl)
-cplOf (write w) = some (w .cpl)
-cplOf (settle s) = none
-cplOf (sleep s) = none
-cplOf reset = none
 
 -- the CPU record as lent, empty where the call has none
 abbrev pub lentCpu : Call → List ℕ

@@ -8,6 +8,8 @@ use lib.Dec.{eqb, leb, ltb}
 use lib.ListN.{length}
 use Rattle.isa.specs.Decode.{decode}
 use Rattle.isa.specs.Ranges.{handleLength, someNotCanonical, someOutside}
+use Rattle.fips197.specs.declared.KeySize.{KeySize}
+use Rattle.isa.specs.declared.Address.{Address}
 use Rattle.isa.specs.declared.Decoded.{Decoded}
 use Rattle.isa.specs.declared.Decoded.the-variants as decoded
 use Rattle.isa.specs.declared.Instruction.{Instruction}
@@ -17,8 +19,8 @@ use Rattle.isa.specs.declared.Segment.the-variants.{Data, Stack}
 use Rattle.model.specs.Numbers.{bit}
 use Rattle.model.specs.Records.{keyLocker, firmwareEnabled, wideForms, backupRegisters, noBackupSupported, randomSource}
 use Rattle.model.specs.Cpu.{cpuSize, register, eax, cpl, control, cr4Kl, cr4Osfxsr, cr0Em, cr0Ts, zeroFieldSet}
-use Rattle.model.specs.Forms.{Form, formOf, registerOf, handleAddress, keySource, noBackup}
-use Rattle.model.specs.Calls.{StepCall, Call, step, read, write, settle, sleep, reset, processorOf, stepOf, cplOf}
+use Rattle.model.specs.Forms.{formOf, registerOf, handleAddress, keySource, noBackup}
+use Rattle.model.specs.Calls.{StepCall, ReadCall, WriteCall, Call, step, read, write, settle, sleep, reset}
 
 -- all that a refusal other than 1 depends on, besides the call
 pub record View : Type 0 where
@@ -37,6 +39,29 @@ abbrev pub first : List Test → ℕ
 first [] = 0
 first (t ∷ l) = cond (t .holds) (t .number) (first l)
 
+-- the tests numbered a to b
+abbrev pub between : ℕ → ℕ → List Test → List Test
+between a b [] = []
+between a b (t ∷ l) = cond (leb a (t .number) && leb (t .number) b) (t ∷ between a b l) (between a b l)
+
+-- ---- what the tests look at
+
+-- in a step: of guest memory and random data the lengths, of the string what it holds
+pub record Asked : Type 0 where
+  pub processor : ℕ
+  pub cpu : List ℕ
+  pub memory : ℕ
+  pub random : ℕ
+  pub decoded : Decoded
+
+-- in a call: `none`, or what is never refused, where it lacks the operand
+pub record Operands : Type 0 where
+  pub unknownCode : Bool
+  pub processor : Option ℕ
+  pub cpl : Option ℕ
+  pub step : Option Asked
+  pub registerFault : ℕ → Bool
+
 -- a test of what a call may lack
 abbrev pub of : {A : Type 0} → (A → Bool) → Option A → Bool
 of f none = false
@@ -48,19 +73,10 @@ ofDecoded f (decoded.Found what lock bytes) = f what lock bytes
 ofDecoded f decoded.BadByte = false
 ofDecoded f decoded.EndOfString = false
 
-abbrev pub ofInstruction : (StepCall → Instruction → Bool → ℕ → Bool) → Call → Bool
-ofInstruction f c = of (λ s. ofDecoded (f s) (decode (s .string))) (stepOf c)
+abbrev pub ofInstruction : (Asked → Instruction → Bool → ℕ → Bool) → Operands → Bool
+ofInstruction f o = of (λ a. ofDecoded (f a) (a .decoded)) (o .step)
 
--- ---- 2 to 9
-
--- "Settle or wake code unknown."
-abbrev pub unknownCode : Call → Bool
-unknownCode (step s) = false
-unknownCode (read r) = false
-unknownCode (write w) = false
-unknownCode (settle s) = leb 2 (s .code)
-unknownCode (sleep s) = leb 3 (s .code)
-unknownCode reset = false
+-- ---- 6 to 9
 
 -- "Guest memory is at most 1,048,576 bytes"
 abbrev pub memoryLimit : ℕ
@@ -127,15 +143,21 @@ abbrev pub inSegment : Bool → Segment → Bool
 inSegment stack Data = not stack
 inSegment stack Stack = stack
 
-abbrev pub canonicalFault : Bool → List ℕ → ℕ → Form → Bool
-canonicalFault stack cpu bytes f =
-    inSegment stack (handleAddress cpu bytes (f .handle) .segment)
-    && someNotCanonical (handleAddress cpu bytes (f .handle) .linear) (handleLength (f .size))
+abbrev pub canonicalFault : Bool → Address → KeySize → Bool
+canonicalFault stack a size = inSegment stack (a .segment) && someNotCanonical (a .linear) (handleLength size)
+
+-- "a handle byte outside memory"
+abbrev pub outside : ℕ → Address → KeySize → Bool
+outside memory a size = someOutside memory (a .linear) (handleLength size)
+
+-- a test of the handle that an instruction of so many bytes uses, if it is a use: of its address and key size
+abbrev pub ofHandle : (Address → KeySize → Bool) → List ℕ → ℕ → Instruction → Bool
+ofHandle f cpu bytes i = of (λ u. f (handleAddress cpu bytes (u .handle)) (u .size)) (formOf i)
 
 -- what an instruction has of 12
 abbrev pub instructionFault : ℕ → List ℕ → Instruction → ℕ → Bool
-instructionFault features cpu (instruction.Use u) bytes = of (canonicalFault false cpu bytes) (formOf (instruction.Use u))
-instructionFault features cpu (instruction.WideUse u) bytes = of (canonicalFault false cpu bytes) (formOf (instruction.WideUse u))
+instructionFault features cpu (instruction.Use u) bytes = ofHandle (canonicalFault false) cpu bytes (instruction.Use u)
+instructionFault features cpu (instruction.WideUse u) bytes = ofHandle (canonicalFault false) cpu bytes (instruction.WideUse u)
 instructionFault features cpu (instruction.LoadIwKey l) bytes = loadFault features cpu
 instructionFault features cpu (instruction.EncodeKey e) bytes = encodeFault (register (registerOf (e .source)) cpu)
 
@@ -143,39 +165,68 @@ instructionFault features cpu (instruction.EncodeKey e) bytes = encodeFault (reg
 abbrev pub noRegisters : ℕ → ℕ → Bool
 noRegisters features cpl = ltb 0 cpl || not (keyLocker features) || not (backupRegisters features)
 
-abbrev pub registerFault : ℕ → Call → Bool
-registerFault features (step s) = false
-registerFault features (read r) = noRegisters features (r .cpl) || not (eqb (r .address) 0x990 || eqb (r .address) 0x991)
-registerFault features (write w) =
-    noRegisters features (w .cpl) || not (eqb (w .address) 0xD91 || eqb (w .address) 0xD92) || ltb 1 (w .value)
-registerFault features (settle s) = false
-registerFault features (sleep s) = false
-registerFault features reset = false
+abbrev pub readFault : ReadCall → ℕ → Bool
+readFault r features = noRegisters features (r .cpl) || not (eqb (r .address) 0x990 || eqb (r .address) 0x991)
 
--- "a handle byte outside memory"
-abbrev pub outside : ℕ → List ℕ → ℕ → Form → Bool
-outside memory cpu bytes f = someOutside memory (handleAddress cpu bytes (f .handle) .linear) (handleLength (f .size))
+abbrev pub writeFault : WriteCall → ℕ → Bool
+writeFault w features = noRegisters features (w .cpl) || not (eqb (w .address) 0xD91 || eqb (w .address) 0xD92) || ltb 1 (w .value)
 
 -- ---- the list
 
-unfoldable pub tests : View → Call → List Test
-tests v c =
-    test 2 (unknownCode c)
-    ∷ test 3 (of (leb (v .count)) (processorOf c))
-    ∷ test 4 (of (λ s. not (eqb (length (s .cpu)) cpuSize)) (stepOf c))
-    ∷ test 5 (of (ltb 3) (cplOf c) || of (λ s. zeroFieldSet (s .cpu)) (stepOf c))
-    ∷ test 6 (of (λ s. ltb memoryLimit (length (s .memory))) (stepOf c))
-    ∷ test 7 (of (λ s. not (randomLength (length (s .random)))) (stepOf c))
-    ∷ test 8 (of (λ s. badByte (decode (s .string))) (stepOf c))
-    ∷ test 9 (of (λ s. ended (decode (s .string))) (stepOf c))
+unfoldable pub tests : View → Operands → List Test
+tests v o =
+    test 2 (o .unknownCode)
+    ∷ test 3 (of (leb (v .count)) (o .processor))
+    ∷ test 4 (of (λ a. not (eqb (length (a .cpu)) cpuSize)) (o .step))
+    ∷ test 5 (of (ltb 3) (o .cpl) || of (λ a. zeroFieldSet (a .cpu)) (o .step))
+    ∷ test 6 (of (λ a. ltb memoryLimit (a .memory)) (o .step))
+    ∷ test 7 (of (λ a. not (randomLength (a .random))) (o .step))
+    ∷ test 8 (of (λ a. badByte (a .decoded)) (o .step))
+    ∷ test 9 (of (λ a. ended (a .decoded)) (o .step))
     ∷ test 10
-    (ofInstruction (λ s i lock bytes. invalidOpcode (v .features) (control (s .cpu)) lock (needsFirmware i) (needsWide i)) c)
-    ∷ test 11 (ofInstruction (λ s i lock bytes. noMath (control (s .cpu))) c)
-    ∷ test 12 (ofInstruction (λ s i lock bytes. instructionFault (v .features) (s .cpu) i bytes) c || registerFault (v .features) c)
-    ∷ test 13 (ofInstruction (λ s i lock bytes. of (canonicalFault true (s .cpu) bytes) (formOf i)) c)
-    ∷ test 14 (ofInstruction (λ s i lock bytes. of (outside (length (s .memory)) (s .cpu) bytes) (formOf i)) c)
+    (ofInstruction (λ a i lock bytes. invalidOpcode (v .features) (control (a .cpu)) lock (needsFirmware i) (needsWide i)) o)
+    ∷ test 11 (ofInstruction (λ a i lock bytes. noMath (control (a .cpu))) o)
+    ∷ test 12 (ofInstruction (λ a i lock bytes. instructionFault (v .features) (a .cpu) i bytes) o || o .registerFault (v .features))
+    ∷ test 13 (ofInstruction (λ a i lock bytes. ofHandle (canonicalFault true) (a .cpu) bytes i) o)
+    ∷ test 14 (ofInstruction (λ a i lock bytes. ofHandle (outside (a .memory)) (a .cpu) bytes i) o)
     ∷ []
+
+-- ---- the calls
+
+abbrev pub asked : StepCall → Asked
+asked s =
+    record {
+      processor = s .processor;
+      cpu = s .cpu;
+      memory = length (s .memory);
+      random = length (s .random);
+      decoded = decode (s .string);
+    }
+
+-- the CPL of a step stands in its CPU record
+abbrev pub ofStep : Asked → Operands
+ofStep a =
+    record { unknownCode = false; processor = some (a .processor); cpl = some (cpl (a .cpu)); step = some a; registerFault = λ features. false }
+
+abbrev pub ofRegister : ℕ → ℕ → (ℕ → Bool) → Operands
+ofRegister processor cpl fault = record { unknownCode = false; processor = some processor; cpl = some cpl; step = none; registerFault = fault }
+
+abbrev pub ofCode : Bool → Operands
+ofCode unknown = record { unknownCode = unknown; processor = none; cpl = none; step = none; registerFault = λ features. false }
+
+-- "Settle or wake code unknown."
+abbrev pub operands : Call → Operands
+operands (step s) = ofStep (asked s)
+operands (read r) = ofRegister (r .processor) (r .cpl) (readFault r)
+operands (write w) = ofRegister (w .processor) (w .cpl) (writeFault w)
+operands (settle s) = ofCode (leb 2 (s .code))
+operands (sleep s) = ofCode (leb 3 (s .code))
+operands reset = ofCode false
+
+-- the refusal of a step that passes 1, by what is looked at in it, or 0
+abbrev pub stepRefusal : View → Asked → ℕ
+stepRefusal v a = first (tests v (ofStep a))
 
 -- the refusal of a call that passes 1, or 0
 unfoldable pub refusal : View → Call → ℕ
-refusal v c = first (tests v c)
+refusal v c = first (tests v (operands c))

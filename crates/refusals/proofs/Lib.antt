@@ -1,3 +1,4 @@
+pub mod Parts
 pub mod Addresses
 pub mod Ways
 pub mod Calls

@@ -15,7 +15,7 @@ use Rattle.isa.specs.declared.Segment.{Segment}
 use Rattle.isa.specs.declared.Segment.the-variants.{Data, Stack}
 use Rattle.model.specs.Cpu.{cpl, control, zeroFieldSet}
 use Rattle.model.specs.Refusals.{first, memoryLimit, randomLength, needsFirmware, needsWide, invalidOpcode, noMath, inSegment}
-use Rattle.refusals.specs.Parts.{segmentNumber, handleTests, operandTests, instructionTests, recordTests}
+use Rattle.refusals.proofs.Parts.{handleTests, operandTests, instructionTests, recordTests}
 
 -- a test that holds, and one that does not
 pub met : (t : Bool) (n r : ℕ) → t ≡ true → n ≡ cond t n r
@@ -27,25 +27,28 @@ passed t n r m e p = p ∙ sym (cond-off e n r)
 -- ---- 12 to 14 for a handle
 
 -- 12 and 13 are one test, and a number for each segment
-by-segment : (g : Segment) (b : Bool) (r : ℕ) → cond (inSegment false g && b) 12 (cond (inSegment true g && b) 13 r) ≡ cond b (segmentNumber g) r
+abbrev numberIn : Segment → ℕ
+numberIn g = cond (inSegment true g) 13 12
+
+by-segment : (g : Segment) (b : Bool) (r : ℕ) → cond (inSegment false g && b) 12 (cond (inSegment true g && b) 13 r) ≡ cond b (numberIn g) r
 by-segment Data true r = refl
 by-segment Data false r = refl
 by-segment Stack true r = refl
 by-segment Stack false r = refl
 
 module _ (memory : ℕ) (a : Address) (size : KeySize) where
-  pub handle-not-canonical : someNotCanonical (a .linear) (handleLength size) ≡ true → segmentNumber (a .segment) ≡ first (handleTests memory a size)
+  pub handle-not-canonical : someNotCanonical (a .linear) (handleLength size) ≡ true → numberIn (a .segment) ≡ first (handleTests memory a size)
   handle-not-canonical e =
       let bad = someNotCanonical (a .linear) (handleLength size) in
       let rest : ℕ = cond (someOutside memory (a .linear) (handleLength size)) 14 0 in
-      met bad (segmentNumber (a .segment)) rest e ∙ sym (by-segment (a .segment) bad rest)
+      met bad (numberIn (a .segment)) rest e ∙ sym (by-segment (a .segment) bad rest)
 
   pub handle-canonical : (b : Bool) → someNotCanonical (a .linear) (handleLength size) ≡ false
       → someOutside memory (a .linear) (handleLength size) ≡ b → cond b 14 0 ≡ first (handleTests memory a size)
   handle-canonical b e f =
       let bad = someNotCanonical (a .linear) (handleLength size) in
       let rest : ℕ = cond (someOutside memory (a .linear) (handleLength size)) 14 0 in
-      passed bad (segmentNumber (a .segment)) rest (cond b 14 0) e (ap (λ (t : Bool). cond t 14 0) (sym f)) ∙ sym (by-segment (a .segment) bad rest)
+      passed bad (numberIn (a .segment)) rest (cond b 14 0) e (ap (λ (t : Bool). cond t 14 0) (sym f)) ∙ sym (by-segment (a .segment) bad rest)
 
 -- ---- 10 to 14 for an instruction
 

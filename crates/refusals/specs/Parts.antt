@@ -1,48 +1,8 @@
--- The model's list of tests in parts, each over what it depends on.
+-- A run of the model's list of tests, for the functions that make a few of them.
 -- Assumes nothing.
-use mathlib.Core.Bool.{Bool, true, false, not, _&&_, _||_}
-use mathlib.Core.List.{List, [], _∷_}
 use Prim.Native.Nat.{ℕ}
-use lib.Dec.{ltb}
-use Rattle.fips197.specs.declared.KeySize.{KeySize}
-use Rattle.isa.specs.Ranges.{handleLength, someNotCanonical, someOutside}
-use Rattle.isa.specs.declared.Address.{Address}
-use Rattle.isa.specs.declared.Instruction.{Instruction}
-use Rattle.isa.specs.declared.Instruction.the-variants as instruction
-use Rattle.isa.specs.declared.Segment.{Segment}
-use Rattle.isa.specs.declared.Segment.the-variants.{Data, Stack}
-use Rattle.model.specs.Cpu.{register, cpl, control, zeroFieldSet}
-use Rattle.model.specs.Forms.{registerOf, handleAddress}
-use Rattle.model.specs.Refusals.{Test, test, memoryLimit, randomLength, needsFirmware, needsWide, invalidOpcode, noMath, loadFault, encodeFault, inSegment}
+use Rattle.model.specs.Refusals.{View, first, between, Asked, tests, ofStep}
 
--- which test a byte that is not canonical meets
-abbrev pub segmentNumber : Segment → ℕ
-segmentNumber Data = 12
-segmentNumber Stack = 13
-
--- 12 to 14 for a handle at an address
-abbrev pub handleTests : ℕ → Address → KeySize → List Test
-handleTests memory a size =
-    test 12 (inSegment false (a .segment) && someNotCanonical (a .linear) (handleLength size))
-    ∷ test 13 (inSegment true (a .segment) && someNotCanonical (a .linear) (handleLength size))
-    ∷ test 14 (someOutside memory (a .linear) (handleLength size))
-    ∷ []
-
--- 12 to 14 for an instruction: LOADIWKEY and ENCODEKEY read no handle
-abbrev pub operandTests : ℕ → List ℕ → ℕ → Instruction → ℕ → List Test
-operandTests features cpu memory (instruction.Use u) bytes = handleTests memory (handleAddress cpu bytes (u .handle)) (u .size)
-operandTests features cpu memory (instruction.WideUse u) bytes = handleTests memory (handleAddress cpu bytes (u .handle)) (u .size)
-operandTests features cpu memory (instruction.LoadIwKey l) bytes = test 12 (loadFault features cpu) ∷ []
-operandTests features cpu memory (instruction.EncodeKey e) bytes = test 12 (encodeFault (register (registerOf (e .source)) cpu)) ∷ []
-
--- 10 to 14
-abbrev pub instructionTests : ℕ → List ℕ → ℕ → Instruction → Bool → ℕ → List Test
-instructionTests features cpu memory what lock bytes =
-    test 10 (invalidOpcode features (control cpu) lock (needsFirmware what) (needsWide what))
-    ∷ test 11 (noMath (control cpu))
-    ∷ operandTests features cpu memory what bytes
-
--- 5 to 7, over the lengths of guest memory and random data
-abbrev pub recordTests : List ℕ → ℕ → ℕ → List Test
-recordTests cpu memory random =
-    test 5 (ltb 3 (cpl cpu) || zeroFieldSet cpu) ∷ test 6 (ltb memoryLimit memory) ∷ test 7 (not (randomLength random)) ∷ []
+-- the number of the first of the tests a to b of a step that holds, or 0
+abbrev pub within : ℕ → ℕ → View → Asked → ℕ
+within a b v q = first (between a b (tests v (ofStep q)))

@@ -1,16 +1,17 @@
 // The scope, "Turned back": the tests 3 to 14, in its order. Each function gives the number of the first of its tests that holds, or 0.
 ghost use mathlib.Core.Path.{_≡_};
-ghost use mathlib.Core.Bool.{cond};
-ghost use Prim.Native.Nat.{_<_};
+ghost use mathlib.Core.Bool.{Bool, true, false, cond};
+ghost use Prim.Native.Nat.{ℕ, _<_};
 ghost use lib.Dec.{leb, ltb};
 ghost use lib.ListN.{length};
-ghost use Rattle.isa.specs.Decode.{decode};
+ghost use Rattle.isa.specs.declared.Decoded as decoded;
+ghost use Rattle.isa.specs.declared.Decoded.the-variants.{Found};
 ghost use Rattle.model.specs.Numbers as model;
 ghost use Rattle.model.specs.Cpu.{cpuSize};
 ghost use Rattle.model.specs.Forms.{handleAddress};
-ghost use Rattle.model.specs.Calls.{StepCall, step, read, write};
-ghost use Rattle.model.specs.Refusals.{View, first, refusal, needsFirmware, needsWide, invalidOpcode, noMath, loadFault, encodeFault, noRegisters};
-ghost use Rattle.refusals.specs.Parts.{segmentNumber, handleTests, operandTests, instructionTests, recordTests};
+ghost use Rattle.model.specs.Calls.{read, write};
+ghost use Rattle.model.specs.Refusals.{View, stepRefusal, refusal, needsFirmware, needsWide, invalidOpcode, noMath, loadFault, encodeFault, inSegment, canonicalFault, outside, noRegisters};
+ghost use Rattle.refusals.specs.Parts.{within};
 use address::effective_address;
 use address::some_not_canonical;
 use address::some_outside;
@@ -65,7 +66,7 @@ fn bit(i: u8, x: u8) -> bool
 
 // ---- 10 and 11
 
-pub fn needs_firmware(what: Instruction) -> bool
+fn needs_firmware(what: Instruction) -> bool
     ensures { λ r. ⌜ r ≡ needsFirmware what ⌝ }
 {
     match what {
@@ -76,7 +77,7 @@ pub fn needs_firmware(what: Instruction) -> bool
     }
 }
 
-pub fn needs_wide(what: Instruction) -> bool
+fn needs_wide(what: Instruction) -> bool
     ensures { λ r. ⌜ r ≡ needsWide what ⌝ }
 {
     match what {
@@ -88,7 +89,7 @@ pub fn needs_wide(what: Instruction) -> bool
 }
 
 // 10, #UD.
-pub fn invalid_opcode(features: u8, control: u8, lock: bool, firmware: bool, wide: bool) -> bool
+fn invalid_opcode(features: u8, control: u8, lock: bool, firmware: bool, wide: bool) -> bool
     ensures { λ r. ⌜ r ≡ invalidOpcode features control lock firmware wide ⌝ }
 {
     lock
@@ -101,7 +102,7 @@ pub fn invalid_opcode(features: u8, control: u8, lock: bool, firmware: bool, wid
 }
 
 // 11, #NM.
-pub fn no_math(control: u8) -> bool
+fn no_math(control: u8) -> bool
     ensures { λ r. ⌜ r ≡ noMath control ⌝ }
 {
     bit(CR0_TS, control)
@@ -110,7 +111,7 @@ pub fn no_math(control: u8) -> bool
 // ---- 12 to 14
 
 // What LOADIWKEY has of 12.
-pub fn load_fault(features: u8, cpu: &[u8]) -> bool
+fn load_fault(features: u8, cpu: &[u8]) -> bool
     requires { ⌜ length (now cpu) ≡ cpuSize ⌝ }
     ensures { λ r. ⌜ r ≡ loadFault features (now (cpu .entry)) ⌝ }
 {
@@ -123,7 +124,7 @@ pub fn load_fault(features: u8, cpu: &[u8]) -> bool
 }
 
 // What ENCODEKEY has of 12: source bits 31:3. Bits 2:0 are restrictions of the handle's use, not of its encoding.
-pub fn encode_fault(source: u64) -> bool
+fn encode_fault(source: u64) -> bool
     ensures { λ r. ⌜ r ≡ encodeFault source ⌝ }
 {
     !(source % 0x1_0000_0000 / 8 == 0)
@@ -148,7 +149,7 @@ pub fn handle_address(cpu: &[u8], bytes: u64, o: Operand) -> Address
 
 // A byte that is not canonical: 13, #SS, in the stack segment, else 12, #GP.
 fn not_canonical(segment: Segment) -> u8
-    ensures { λ r. ⌜ r ≡ segmentNumber segment ⌝ }
+    ensures { λ r. ⌜ r ≡ cond (inSegment true segment) 13 12 ⌝ }
 {
     match segment {
         Segment::Data => 12,
@@ -157,8 +158,8 @@ fn not_canonical(segment: Segment) -> u8
 }
 
 // 12 to 14 for a handle at an address.
-pub fn handle_refusal(memory: usize, a: Address, size: KeySize) -> u8
-    ensures { λ r. ⌜ r ≡ first (handleTests memory a size) ⌝ }
+fn handle_refusal(memory: usize, a: Address, size: KeySize) -> u8
+    ensures { λ r. ⌜ r ≡ cond (canonicalFault false a size) 12 (cond (canonicalFault true a size) 13 (cond (outside memory a size) 14 0)) ⌝ }
 {
     let segment = a.segment;
     if some_not_canonical(a.linear, size) {
@@ -183,7 +184,7 @@ fn fault(holds: bool) -> u8
 // 12 to 14 for an instruction.
 fn operand_refusal(features: u8, cpu: &[u8], memory: usize, what: Instruction, bytes: u64) -> u8
     requires { ⌜ length (now cpu) ≡ cpuSize ⌝ }
-    ensures { λ r. ⌜ r ≡ first (operandTests features (now (cpu .entry)) memory what bytes) ⌝ }
+    ensures { λ r. ⌜ ((count processor random : ℕ) (lock : Bool) → r ≡ within 12 14 (record { count = count; features = features }) (record { processor = processor; cpu = now (cpu .entry); memory = memory; random = random; decoded = Found what lock bytes })) ⌝ }
 {
     match what {
         Instruction::Use(u) => {
@@ -205,7 +206,7 @@ fn operand_refusal(features: u8, cpu: &[u8], memory: usize, what: Instruction, b
 }
 
 // 10 to 14 for an instruction of so many bytes.
-pub fn instruction_refusal(
+fn instruction_refusal(
     features: u8,
     cpu: &[u8],
     memory: usize,
@@ -214,7 +215,7 @@ pub fn instruction_refusal(
     bytes: u64,
 ) -> u8
     requires { ⌜ length (now cpu) ≡ cpuSize ⌝ }
-    ensures { λ r. ⌜ r ≡ first (instructionTests features (now (cpu .entry)) memory what lock bytes) ⌝ }
+    ensures { λ r. ⌜ ((count processor random : ℕ) → r ≡ within 10 14 (record { count = count; features = features }) (record { processor = processor; cpu = now (cpu .entry); memory = memory; random = random; decoded = Found what lock bytes })) ⌝ }
 {
     let c = control(cpu);
     if invalid_opcode(features, c, lock, needs_firmware(what), needs_wide(what)) {
@@ -229,9 +230,9 @@ pub fn instruction_refusal(
 // ---- a step
 
 // 5 to 7: CPU record, guest memory and random data.
-pub fn record_refusal(cpu: &[u8], memory: usize, random: usize) -> u8
+fn record_refusal(cpu: &[u8], memory: usize, random: usize) -> u8
     requires { ⌜ length (now cpu) ≡ cpuSize ⌝ }
-    ensures { λ r. ⌜ r ≡ first (recordTests (now (cpu .entry)) memory random) ⌝ }
+    ensures { λ r. ⌜ ((v : View) (processor : ℕ) (d : decoded.Decoded) → r ≡ within 5 7 v (record { processor = processor; cpu = now (cpu .entry); memory = memory; random = random; decoded = d })) ⌝ }
 {
     if (3 < cpl(cpu)) | zero_field_set(cpu) {
         return 5;
@@ -255,7 +256,7 @@ pub fn step_refusal(
     random: usize,
     d: Decoded,
 ) -> u8
-    ensures { λ r. ⌜ ((s : StepCall) → s .processor ≡ processor → s .cpu ≡ now (cpu .entry) → length (s .memory) ≡ memory → length (s .random) ≡ random → decode (s .string) ≡ d → r ≡ refusal (record { count = count; features = features }) (step s)) ⌝ }
+    ensures { λ r. ⌜ r ≡ stepRefusal (record { count = count; features = features }) (record { processor = processor; cpu = now (cpu .entry); memory = memory; random = random; decoded = d }) ⌝ }
 {
     if count <= processor {
         return 3;

@@ -13,7 +13,7 @@ use Rattle.model.specs.Forms.{handleAddress}
 use Rattle.model.proofs.Demand3.{handle-fits}
 use Rattle.model.proofs.Refusals.{cpu-length, random-length}
 use Rattle.machine.proofs.Calls.{not-valid, stopped}
-use Rattle.machine.proofs.Steps.{step-done, step-refused, executed-as}
+use Rattle.machine.proofs.Steps.{step-told, step-done, step-refused, executed-as}
 use borrow.Author.Needs.{needs}
 use Rattle.machine.proofs.step.Statement.{statement}
 use Rattle.machine.proofs.step.Tie as tie
@@ -47,7 +47,7 @@ returns-2 c =
     let s : StepCall = record { processor = a .processor; cpu = a .cpu .now; memory = a .memory .now; random = a .random .now; string = a .string .now } in
     let v = sym (c .before .before .before .before .before .valid .ensures) ∙ not-false (c .before .before .before .before .before .valid .result) (c .before .before .before .before .if1 .left) in
     let n = c .before .before .step-refusal .result in
-    let e = c .before .before .step-refusal .ensures s refl refl refl refl (sym (c .before .before .before .decode .ensures)) in
+    let e = step-told (viewOf (a .m)) s _ _ (c .before .before .step-refusal .ensures) (c .before .before .before .decode .ensures) in
     c .refused-step2 .ensures
     ∙ step-refused (a .m) s n (c .before .if2 .taken) (stopped (a .m) (calls.step s) v n (sym e) (c .before .if2 .taken))
 
@@ -58,19 +58,19 @@ random-of-requires : tie.Need-random-of-requires
 random-of-requires c κs =
     let a = c .before .before .before .before .before .before .before .before .before .before .before .args in
     let s : StepCall = record { processor = a .processor; cpu = a .cpu .now; memory = a .memory .now; random = a .random .now; string = a .string .now } in
-    random-length (viewOf (a .m)) s (sym (c .before .before .before .step-refusal .ensures s refl refl refl refl (sym (c .before .before .before .before .decode .ensures))) ∙ c .before .before .if2 .left)
+    random-length (viewOf (a .m)) s (sym (step-told (viewOf (a .m)) s _ _ (c .before .before .before .step-refusal .ensures) (c .before .before .before .before .decode .ensures)) ∙ c .before .before .if2 .left)
 
 record-of-requires : tie.Need-record-of-requires
 record-of-requires c κs =
     let a = c .before .before .before .before .before .before .before .before .before .before .before .before .args in
     let s : StepCall = record { processor = a .processor; cpu = a .cpu .now; memory = a .memory .now; random = a .random .now; string = a .string .now } in
-    cpu-length (viewOf (a .m)) s (sym (c .before .before .before .before .step-refusal .ensures s refl refl refl refl (sym (c .before .before .before .before .before .decode .ensures))) ∙ c .before .before .before .if2 .left)
+    cpu-length (viewOf (a .m)) s (sym (step-told (viewOf (a .m)) s _ _ (c .before .before .before .before .step-refusal .ensures) (c .before .before .before .before .before .decode .ensures)) ∙ c .before .before .before .if2 .left)
 
 executed-requires : tie.Need-executed-requires
 executed-requires c κs =
     let a = c .before .before .before .before .before .before .before .before .before .before .before .before .before .args in
     let s : StepCall = record { processor = a .processor; cpu = a .cpu .now; memory = a .memory .now; random = a .random .now; string = a .string .now } in
-    let accepted = sym (c .before .before .before .before .before .step-refusal .ensures s refl refl refl refl (sym (c .before .before .before .before .before .before .decode .ensures))) ∙ c .before .before .before .before .if2 .left in
+    let accepted = sym (step-told (viewOf (a .m)) s _ _ (c .before .before .before .before .before .step-refusal .ensures) (c .before .before .before .before .before .before .decode .ensures)) ∙ c .before .before .before .before .if2 .left in
     λ what lock bytes q f r.
     subst (λ (l : List ℕ). handleAddress l bytes (f .handle) .linear + handleLength (f .size) ≤ length (a .memory .now)) (sym (c .record-of .ensures))
     (handle-fits (viewOf (a .m)) s accepted what lock bytes f (sym (c .before .before .before .before .before .before .decode .ensures) ∙ q) r)
@@ -83,7 +83,7 @@ returns-3 c =
     let a = c .before .before .before .before .before .before .before .before .before .before .before .before .before .before .before .args in
     let s : StepCall = record { processor = a .processor; cpu = a .cpu .now; memory = a .memory .now; random = a .random .now; string = a .string .now } in
     let v = sym (c .before .before .before .before .before .before .before .before .before .before .valid .ensures) ∙ not-false (c .before .before .before .before .before .before .before .before .before .before .valid .result) (c .before .before .before .before .before .before .before .before .before .if1 .left) in
-    let accepted = sym (c .before .before .before .before .before .before .before .step-refusal .ensures s refl refl refl refl (sym (c .before .before .before .before .before .before .before .before .decode .ensures))) ∙ c .before .before .before .before .before .before .if2 .left in
+    let accepted = sym (step-told (viewOf (a .m)) s _ _ (c .before .before .before .before .before .before .before .step-refusal .ensures) (c .before .before .before .before .before .before .before .before .decode .ensures)) ∙ c .before .before .before .before .before .before .if2 .left in
     let e = c .before .before .before .before .before .processor-at .result in
     c .done-step .ensures
     ∙ step-done (a .m) v s accepted e (c .before .before .before .before .before .processor-at .ensures) (executedOf (c .before .executed .result))

@@ -2,6 +2,7 @@ use mathlib.Core.Path.{_∙_, sym, ap}
 use mathlib.Core.Bool.{true, false}
 use Rattle.model.specs.Refusals.{noMath}
 use Rattle.refusals.proofs.Ways.{told-opcode, instruction-10, instruction-11, instruction-rest}
+use Rattle.refusals.proofs.Calls.{operand-within, instruction-within}
 use borrow.Author.Needs.{needs}
 use Rattle.refusals.proofs.instruction_refusal.Statement.{statement}
 use Rattle.refusals.proofs.instruction_refusal.Tie as tie
@@ -30,7 +31,7 @@ returns c =
     let opcode =
     told-opcode features cpu what lock (c .before .invalid-opcode .result) true (c .before .before .before .needs-firmware .result) (c .before .before .needs-wide .result) (c .before .before .before .before .control .result)
     (c .before .invalid-opcode .ensures) (c .before .before .before .before .control .ensures) (c .before .before .before .needs-firmware .ensures) (c .before .before .needs-wide .ensures) (c .if1 .taken) in
-    instruction-10 features cpu memory what lock bytes opcode
+    λ n p r. instruction-10 features cpu memory what lock bytes opcode ∙ instruction-within n features p cpu memory r what lock bytes
 
 no-math-requires : tie.Need-no-math-requires
 no-math-requires c κs = search needs
@@ -47,7 +48,7 @@ returns-2 c =
     let opcode =
     told-opcode features cpu what lock (c .before .before .before .invalid-opcode .result) false (c .before .before .before .before .before .needs-firmware .result) (c .before .before .before .before .needs-wide .result) (c .before .before .before .before .before .before .control .result)
     (c .before .before .before .invalid-opcode .ensures) (c .before .before .before .before .before .before .control .ensures) (c .before .before .before .before .before .needs-firmware .ensures) (c .before .before .before .before .needs-wide .ensures) (c .before .before .if1 .left) in
-    instruction-11 features cpu memory what lock bytes opcode (sym (c .before .no-math .ensures ∙ ap noMath (c .before .before .before .before .before .before .control .ensures)) ∙ c .if2 .taken)
+    λ n p r. instruction-11 features cpu memory what lock bytes opcode (sym (c .before .no-math .ensures ∙ ap noMath (c .before .before .before .before .before .before .control .ensures)) ∙ c .if2 .taken) ∙ instruction-within n features p cpu memory r what lock bytes
 
 operand-refusal-requires : tie.Need-operand-refusal-requires
 operand-refusal-requires c κs = search needs
@@ -64,7 +65,10 @@ returns-3 c =
     let opcode =
     told-opcode features cpu what lock (c .before .before .before .before .invalid-opcode .result) false (c .before .before .before .before .before .before .needs-firmware .result) (c .before .before .before .before .before .needs-wide .result) (c .before .before .before .before .before .before .before .control .result)
     (c .before .before .before .before .invalid-opcode .ensures) (c .before .before .before .before .before .before .before .control .ensures) (c .before .before .before .before .before .before .needs-firmware .ensures) (c .before .before .before .before .before .needs-wide .ensures) (c .before .before .before .if1 .left) in
-    instruction-rest features cpu memory what lock bytes (c .operand-refusal .result) opcode (sym (c .before .before .no-math .ensures ∙ ap noMath (c .before .before .before .before .before .before .before .control .ensures)) ∙ c .before .if2 .left) (c .operand-refusal .ensures)
+    λ n p r.
+    instruction-rest features cpu memory what lock bytes (c .operand-refusal .result) opcode (sym (c .before .before .no-math .ensures ∙ ap noMath (c .before .before .before .before .before .before .before .control .ensures)) ∙ c .before .if2 .left)
+    (c .operand-refusal .ensures n p r lock ∙ sym (operand-within n features p cpu memory r what lock bytes))
+    ∙ instruction-within n features p cpu memory r what lock bytes
 
 pub instruction-refusal-spec : {M : Type 1} → statement M
 instruction-refusal-spec =

@@ -5,7 +5,8 @@ use Rattle.isa.specs.declared.Address.{Address}
 use Rattle.isa.specs.declared.Instruction.{Instruction}
 use Rattle.model.specs.Cpu.{register}
 use Rattle.model.specs.Refusals.{first, encodeFault}
-use Rattle.refusals.specs.Parts.{handleTests, operandTests}
+use Rattle.refusals.proofs.Parts.{handleTests, operandTests}
+use Rattle.refusals.proofs.Calls.{operand-within}
 use borrow.Author.Needs.{needs}
 use Rattle.refusals.proofs.operand_refusal.Statement.{statement}
 use Rattle.refusals.proofs.operand_refusal.Tie as tie
@@ -57,33 +58,41 @@ returns c =
     let st = c .before .before .before .before .before .before in
     let cpu = st .args .cpu .now in
     let u = c .before .before .before .what .given .0 .0 in
+    λ n p r lock.
     c .handle-refusal .ensures
     ∙ ap (λ (a : Address). first (handleTests (st .args .memory) a (u .size))) (c .before .handle-address .ensures)
     ∙ ap (λ (w : Instruction). first (operandTests (st .args .features) cpu (st .args .memory) w (st .args .bytes))) (sym (c .before .before .before .what .given .1))
+    ∙ operand-within n (st .args .features) p cpu (st .args .memory) r (st .args .what) lock (st .args .bytes)
 
 returns-2 : tie.Need-returns-2
 returns-2 c =
     let st = c .before .before .before .before .before .before in
     let cpu = st .args .cpu .now in
     let u = c .before .before .before .what2 .given .0 .0 in
+    λ n p r lock.
     c .handle-refusal2 .ensures
     ∙ ap (λ (a : Address). first (handleTests (st .args .memory) a (u .size))) (c .before .handle-address2 .ensures)
     ∙ ap (λ (w : Instruction). first (operandTests (st .args .features) cpu (st .args .memory) w (st .args .bytes))) (sym (c .before .before .before .what2 .given .1))
+    ∙ operand-within n (st .args .features) p cpu (st .args .memory) r (st .args .what) lock (st .args .bytes)
 
 returns-3 : tie.Need-returns-3
 returns-3 c =
     let st = c .before .before .before .before .before in
     let cpu = st .args .cpu .now in
+    λ n p r lock.
     c .fault .ensures ∙ ap (λ (t : Bool). cond t 12 0) (c .before .load-fault .ensures)
     ∙ ap (λ (w : Instruction). first (operandTests (st .args .features) cpu (st .args .memory) w (st .args .bytes))) (sym (c .before .before .enum-told .given .1))
+    ∙ operand-within n (st .args .features) p cpu (st .args .memory) r (st .args .what) lock (st .args .bytes)
 
 returns-4 : tie.Need-returns-4
 returns-4 c =
     let st = c .before .before .before .before .before .before .before .before in
     let cpu = st .args .cpu .now in
+    λ n p r lock.
     c .fault2 .ensures
     ∙ ap (λ (t : Bool). cond t 12 0) (c .before .encode-fault .ensures ∙ ap encodeFault (c .before .before .register .ensures ∙ ap (λ (n : ℕ). register n cpu) (c .before .before .before .register-of .ensures)))
     ∙ ap (λ (w : Instruction). first (operandTests (st .args .features) cpu (st .args .memory) w (st .args .bytes))) (sym (c .before .before .before .before .before .what3 .given .1))
+    ∙ operand-within n (st .args .features) p cpu (st .args .memory) r (st .args .what) lock (st .args .bytes)
 
 pub operand-refusal-spec : {M : Type 1} → statement M
 operand-refusal-spec =

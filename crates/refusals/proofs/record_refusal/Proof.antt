@@ -1,5 +1,7 @@
+use mathlib.Core.Path.{_∙_}
 use mathlib.Core.Bool.{true, false}
 use Rattle.refusals.proofs.Ways.{told-record, record-5, record-6, record-rest}
+use Rattle.refusals.proofs.Calls.{record-within}
 use borrow.Author.Needs.{needs}
 use Rattle.refusals.proofs.record_refusal.Statement.{statement}
 use Rattle.refusals.proofs.record_refusal.Tie as tie
@@ -18,7 +20,7 @@ returns c =
     let random = st .args .random in
     let told =
     told-record cpu (c .before .zero-field-set .result) true (c .before .before .cpl .result) (c .before .before .cpl .ensures) (c .before .zero-field-set .ensures) (c .if1 .taken) in
-    record-5 cpu memory random told
+    λ v p d. record-5 cpu memory random told ∙ record-within (v .count) (v .features) p cpu memory random d
 
 returns-2 : tie.Need-returns-2
 returns-2 c =
@@ -28,7 +30,7 @@ returns-2 c =
     let random = st .args .random in
     let told =
     told-record cpu (c .before .before .zero-field-set .result) false (c .before .before .before .cpl .result) (c .before .before .before .cpl .ensures) (c .before .before .zero-field-set .ensures) (c .before .if1 .left) in
-    record-6 cpu memory random told (c .if2 .taken)
+    λ v p d. record-6 cpu memory random told (c .if2 .taken) ∙ record-within (v .count) (v .features) p cpu memory random d
 
 returns-3 : tie.Need-returns-3
 returns-3 c =
@@ -38,7 +40,7 @@ returns-3 c =
     let random = st .args .random in
     let told =
     told-record cpu (c .before .before .before .zero-field-set .result) false (c .before .before .before .before .cpl .result) (c .before .before .before .before .cpl .ensures) (c .before .before .before .zero-field-set .ensures) (c .before .before .if1 .left) in
-    record-rest cpu memory random true told (c .before .if2 .left) (c .if3 .taken)
+    λ v p d. record-rest cpu memory random true told (c .before .if2 .left) (c .if3 .taken) ∙ record-within (v .count) (v .features) p cpu memory random d
 
 returns-4 : tie.Need-returns-4
 returns-4 c =
@@ -48,7 +50,7 @@ returns-4 c =
     let random = st .args .random in
     let told =
     told-record cpu (c .before .before .before .zero-field-set .result) false (c .before .before .before .before .cpl .result) (c .before .before .before .before .cpl .ensures) (c .before .before .before .zero-field-set .ensures) (c .before .before .if1 .left) in
-    record-rest cpu memory random false told (c .before .if2 .left) (c .if3 .left)
+    λ v p d. record-rest cpu memory random false told (c .before .if2 .left) (c .if3 .left) ∙ record-within (v .count) (v .features) p cpu memory random d
 
 pub record-refusal-spec : {M : Type 1} → statement M
 record-refusal-spec =

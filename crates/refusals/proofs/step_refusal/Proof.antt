@@ -23,7 +23,7 @@ returns-3 : tie.Need-returns-3
 returns-3 c =
     let st = c .before .before .before .before .before in
     step-record (st .args .count) (st .args .features) (st .args .processor) (st .args .cpu .now) (st .args .memory) (st .args .random) (st .args .d)
-    (c .before .record-refusal .result) (c .before .before .before .if1 .left) (c .before .before .if2 .left) (c .before .record-refusal .ensures) (c .if3 .taken)
+    (c .before .record-refusal .result) (c .before .before .before .if1 .left) (c .before .before .if2 .left) (c .before .record-refusal .ensures (record { count = st .args .count; features = st .args .features }) (st .args .processor) (st .args .d)) (c .if3 .taken)
 
 enum-told : tie.Need-enum-told
 enum-told c = search needs
@@ -41,22 +41,22 @@ returns-4 : tie.Need-returns-4
 returns-4 c =
     let st = c .before .before .before .before .before .before .before in
     step-decoded (st .args .count) (st .args .features) (st .args .processor) (st .args .cpu .now) (st .args .memory) (st .args .random) (st .args .d)
-    (c .before .before .before .record-refusal .result) 8 (c .before .before .before .before .before .if1 .left) (c .before .before .before .before .if2 .left) (c .before .before .before .record-refusal .ensures) (c .before .before .if3 .left)
-    (ap (decodedRefusal (st .args .features) (st .args .cpu .now) (st .args .memory)) (sym (c .enum-told .given .1)))
+    (c .before .before .before .record-refusal .result) 8 (c .before .before .before .before .before .if1 .left) (c .before .before .before .before .if2 .left) (c .before .before .before .record-refusal .ensures (record { count = st .args .count; features = st .args .features }) (st .args .processor) (st .args .d)) (c .before .before .if3 .left)
+    (ap (decodedRefusal (st .args .count) (st .args .features) (st .args .processor) (st .args .cpu .now) (st .args .memory) (st .args .random)) (sym (c .enum-told .given .1)))
 
 returns-5 : tie.Need-returns-5
 returns-5 c =
     let st = c .before .before .before .before .before .before .before in
     step-decoded (st .args .count) (st .args .features) (st .args .processor) (st .args .cpu .now) (st .args .memory) (st .args .random) (st .args .d)
-    (c .before .before .before .record-refusal .result) 9 (c .before .before .before .before .before .if1 .left) (c .before .before .before .before .if2 .left) (c .before .before .before .record-refusal .ensures) (c .before .before .if3 .left)
-    (ap (decodedRefusal (st .args .features) (st .args .cpu .now) (st .args .memory)) (sym (c .enum-told2 .given .1)))
+    (c .before .before .before .record-refusal .result) 9 (c .before .before .before .before .before .if1 .left) (c .before .before .before .before .if2 .left) (c .before .before .before .record-refusal .ensures (record { count = st .args .count; features = st .args .features }) (st .args .processor) (st .args .d)) (c .before .before .if3 .left)
+    (ap (decodedRefusal (st .args .count) (st .args .features) (st .args .processor) (st .args .cpu .now) (st .args .memory) (st .args .random)) (sym (c .enum-told2 .given .1)))
 
 returns-6 : tie.Need-returns-6
 returns-6 c =
     let st = c .before .before .before .before .before .before .before .before .before in
     step-decoded (st .args .count) (st .args .features) (st .args .processor) (st .args .cpu .now) (st .args .memory) (st .args .random) (st .args .d)
-    (c .before .before .before .before .before .record-refusal .result) (c .instruction-refusal .result) (c .before .before .before .before .before .before .before .if1 .left) (c .before .before .before .before .before .before .if2 .left) (c .before .before .before .before .before .record-refusal .ensures) (c .before .before .before .before .if3 .left)
-    (c .instruction-refusal .ensures ∙ ap (decodedRefusal (st .args .features) (st .args .cpu .now) (st .args .memory)) (sym (c .before .before .d .given .1)))
+    (c .before .before .before .before .before .record-refusal .result) (c .instruction-refusal .result) (c .before .before .before .before .before .before .before .if1 .left) (c .before .before .before .before .before .before .if2 .left) (c .before .before .before .before .before .record-refusal .ensures (record { count = st .args .count; features = st .args .features }) (st .args .processor) (st .args .d)) (c .before .before .before .before .if3 .left)
+    (c .instruction-refusal .ensures (st .args .count) (st .args .processor) (st .args .random) ∙ ap (decodedRefusal (st .args .count) (st .args .features) (st .args .processor) (st .args .cpu .now) (st .args .memory) (st .args .random)) (sym (c .before .before .d .given .1)))
 
 pub step-refusal-spec : {M : Type 1} → statement M
 step-refusal-spec =
