@@ -1,7 +1,7 @@
 -- Demand 3 of the exported calls: every execution satisfies it, and every list of calls from an accepted power-on has one execution and no other.
 -- Assumes nothing.
 use mathlib.Core.Path.{_≡_, _∙_, refl, sym, ap, subst}
-use mathlib.Core.Bool.{Bool, true, false, cond, not, _&&_}
+use mathlib.Core.Bool.{Bool, true, false, cond}
 use mathlib.Core.List.{List, [], _∷_}
 use mathlib.Core.Option.{Option, some}
 use Prim.Native.Nat.{ℕ}
@@ -9,15 +9,14 @@ use lib.Dec.{eqb}
 use lib.ListN.{length, getD}
 use borrow.Author.Tests.{eqb-true, eq-eqb}
 use Rattle.bits.proofs.Choice.{cond-on, on-cond}
-use Rattle.model.specs.Calls.{PowerOn, ReadCall, WriteCall, Call, step, read, write, settle, sleep, reset, Answer, Outcome}
-use Rattle.model.specs.Validity.{validCount, validFeatures}
-use Rattle.model.specs.Refusals.{test, first}
-use Rattle.model.specs.Execution.{powerOnRefusal, powerOn, Run}
+use Rattle.model.specs.Calls.{PowerOn, ReadCall, WriteCall, Call, step, read, write, settle, sleep, reset, Answer}
+use Rattle.model.specs.Refusals.{first}
+use Rattle.model.specs.Execution.{powerOn, Run}
 use Rattle.model.specs.History.{nameAt, history}
 use Rattle.model.specs.Demand3.{held, Demand3}
 use Rattle.model.specs.Status.{StatusRegisters, ruleCalls, OperatorRule}
 use Rattle.model.specs.Layout.{machineSize, machineBytes, machineAt}
-use Rattle.model.specs.Lent.{Lent, powerOnLent, callLent, runLent}
+use Rattle.model.specs.Lent.{Lent, into, wrongSize, powerOnLent, callLent, runLent}
 use Rattle.model.specs.Records.{zeroKey}
 use Rattle.model.specs.declared.IwKey.{IwKey}
 use Rattle.model.proofs.Lent.{power-on-lent, demand-3-lent, status-registers-lent}
@@ -157,7 +156,7 @@ module _ (block : List ℕ) (p : PowerOn) (size : length block ≡ machineSize) 
   unfolding powerOnLent
   on-lent =
       power-on-promised block p (powerOnLent block p .block) 0
-      (λ j. called (sym (ap (λ (x : Lent). x .answer .number) (cond-on (eq-eqb (length block) machineSize size) _ _) ∙ ok) j) (powerOnLent block p .block))
+      (λ j. called (sym (ap (λ (x : Lent). x .answer .number) (cond-on (eq-eqb (length block) machineSize size) (into block (powerOn p)) (wrongSize block [])) ∙ ok) j) (powerOnLent block p .block))
 
   -- the value that a read finds before it is any
   pub execution-exists : (calls : List Call) (old : ℕ) → Execution p calls (runLent (powerOnLent block p .block) calls)

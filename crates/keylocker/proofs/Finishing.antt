@@ -1,7 +1,7 @@
 -- A call by value, through the layout, keeps its promise.
 -- Assumes nothing.
 use mathlib.Core.Path.{_≡_, _∙_, refl, sym, ap, subst}
-use mathlib.Core.Bool.{Bool, true, false, cond, not, _&&_, and-assoc}
+use mathlib.Core.Bool.{Bool, true, false, cond}
 use mathlib.Core.List.{List, []}
 use Prim.Native.Nat.{ℕ}
 use native.Mathlib.Nat.{suc-ne-zero}
@@ -11,7 +11,6 @@ use borrow.Author.Tests.{eqb-true, eqb-false, eq-eqb, ne-eqb}
 use Rattle.bits.proofs.Choice.{cond-on, cond-off, on-cond}
 use Rattle.model.specs.Calls.{PowerOn, StepCall, ReadCall, Call, step, read, write, settle, sleep, reset}
 use Rattle.model.specs.Calls as model
-use Rattle.model.specs.Validity.{validCount, validFeatures}
 use Rattle.model.specs.Execution.{powerOnRefusal, refused, perform, numberOf, call, powerOn}
 use Rattle.model.specs.Layout.{machineSize, machineBytes, machineAt}
 use Rattle.model.specs.Lent.{Lent, into, wrongSize, powerOnLent, callLent}
@@ -23,7 +22,7 @@ use Rattle.machine.specs.declared.Answer.{Answer}
 use Rattle.machine.specs.declared.Answer.the-variants.{Done, Refused}
 use Rattle.machine.specs.declared.Outcome.{Outcome}
 use Rattle.lent.specs.Form.{Left, left, leftOf}
-use Rattle.keylocker.specs.Form.{Called, called, calledOf, answered, finished, readAnswered}
+use Rattle.keylocker.specs.Form.{called, calledOf, answered, finished, readAnswered}
 use Rattle.keylocker.specs.Promises.{answer, gave, PowerOnPromise, StepPromise, ReadPromise}
 
 -- ---- what an answer can hold: a CPU record if the call is a step, a value if it is a read
