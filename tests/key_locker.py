@@ -197,7 +197,6 @@ KINDS = {
     "expand": lambda key, *words: b"".join(key_expansion(key)) == b"".join(words),
     "cipher": lambda key, plain, crypt: (cipher(key, plain), inv_cipher(key, crypt)) == (crypt, plain),
     "sum": lambda a, b, result: xor(a, b) == result,
-    "product": lambda a, b, result: product(a, b) == result,
     "dot": lambda a, b, result: dot(a, b) == result,
     "polyval": lambda h, blocks, result: polyval(h, blocks) == result,
     "handle": handle_fits,

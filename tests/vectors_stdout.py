@@ -92,7 +92,6 @@ KINDS = {
     "expand": expand,
     "cipher": cipher,
     "sum": partial(operation, "sum"),
-    "product": partial(operation, "product"),
     "dot": partial(operation, "dot"),
     "polyval": polyval,
     "handle": handle,

@@ -1,4 +1,4 @@
--- The loops over the rounds: one round more, and the end. Each law serves the cipher with and without tables.
+-- The loops over the rounds: one round more, and the end.
 -- Assumes nothing.
 use mathlib.Core.Path.{_≡_, sym, ap, ap₂, _∙_}
 use mathlib.Core.List.{List}

@@ -5,9 +5,12 @@ use mathlib.Core.List.{List, [], _∷_, _++_}
 use Prim.Native.Nat.{ℕ, _+_, _*_, _/_, _%_, _^_, _<_}
 use native.Mathlib.Omega.{arith}
 use lib.Arith.{digits-div, digits-mod}
+use lib.ListN.{getD}
 use Rattle.bits.specs.Words.{leBytes}
 use Rattle.bits.proofs.Lists.{list4}
 use Rattle.fips197.specs.KeyExpansion.{rotWord}
+use Rattle.fips197.specs.Sbox.{TableOf}
+use Rattle.aes.specs.Columns.{diagonal}
 
 -- w is the word of these four bytes
 pub record Is (w a b c d : ℕ) : Type 0 where
@@ -43,3 +46,7 @@ joined a b g h =
     let e : a + b * 2 ^ 32 % 2 ^ 64 ≡ b * 2 ^ 32 + a = omega arith in
     ap (leBytes 8) e ∙ sym (halves (b * 2 ^ 32 + a))
     ∙ ap₂ (λ (x y : ℕ). leBytes 4 x ++ leBytes 4 y) (digits-mod b g) (digits-div b g)
+
+-- bytes looked up in the table of f
+pub through-table : (f : ℕ → ℕ) (t : List ℕ) → TableOf f t → (a b c d : ℕ) → diagonal (λ x. getD t x 0) a b c d ≡ diagonal f a b c d
+through-table f t rule a b c d = list4 (rule _ (omega arith)) (rule _ (omega arith)) (rule _ (omega arith)) (rule _ (omega arith))

@@ -1,6 +1,6 @@
 // What InvCipher, of FIPS 197 section 5.3, has beside InvMixColumns.
 ghost use mathlib.Core.Path.{_≡_};
-ghost use Rattle.fips197.specs.Sbox.{invSbox, TableOf};
+ghost use Rattle.fips197.specs.Sbox.{InvSboxTable};
 ghost use Rattle.fips197.specs.InvCipher.{invSubBytes, invShiftRows, invFinalRound};
 ghost use Rattle.aes.specs.Form.{bytesOf};
 use crate::Block;
@@ -8,21 +8,21 @@ use crate::cipher::add_round_key;
 use crate::word::sub_diagonal;
 
 // InvShiftRows, then InvSubBytes: each byte is looked up at the place from which it moves.
-fn inv_shift_sub(t: &[u8; 256], s: Block) -> Block
-    requires { ⌜ TableOf invSbox (now t) ⌝ }
+fn inv_shift_sub(inverse: &[u8; 256], s: Block) -> Block
+    requires { ⌜ InvSboxTable (now inverse) ⌝ }
     ensures { λ r. ⌜ bytesOf r ≡ invSubBytes (invShiftRows (bytesOf s)) ⌝ }
 {
     Block {
-        a: sub_diagonal(t, s.a, s.d, s.c, s.b),
-        b: sub_diagonal(t, s.b, s.a, s.d, s.c),
-        c: sub_diagonal(t, s.c, s.b, s.a, s.d),
-        d: sub_diagonal(t, s.d, s.c, s.b, s.a),
+        a: sub_diagonal(inverse, s.a, s.d, s.c, s.b),
+        b: sub_diagonal(inverse, s.b, s.a, s.d, s.c),
+        c: sub_diagonal(inverse, s.c, s.b, s.a, s.d),
+        d: sub_diagonal(inverse, s.d, s.c, s.b, s.a),
     }
 }
 
-pub fn inv_final_round(t: &[u8; 256], s: Block, k: Block) -> Block
-    requires { ⌜ TableOf invSbox (now t) ⌝ }
+pub fn inv_final_round(inverse: &[u8; 256], s: Block, k: Block) -> Block
+    requires { ⌜ InvSboxTable (now inverse) ⌝ }
     ensures { λ r. ⌜ bytesOf r ≡ invFinalRound (bytesOf s) (bytesOf k) ⌝ }
 {
-    add_round_key(inv_shift_sub(t, s), k)
+    add_round_key(inv_shift_sub(inverse, s), k)
 }

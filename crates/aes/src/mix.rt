@@ -1,11 +1,9 @@
-// MixColumns and, column by column, its inverse, without a table.
+// MixColumns and its inverse of one column, without a table.
 ghost use mathlib.Core.Path.{_≡_};
 ghost use Rattle.bits.specs.Words.{leBytes};
-ghost use Rattle.fips197.specs.Cipher.{mixRow, mixColumns};
+ghost use Rattle.fips197.specs.Cipher.{mixRow};
 ghost use Rattle.fips197.specs.InvCipher.{invMixRow};
 ghost use Rattle.aes.specs.Columns.{scaled, staggered, mixed};
-ghost use Rattle.aes.specs.Form.{bytesOf};
-use crate::Block;
 use crate::word::rot_word;
 
 // Every byte of a column times x.
@@ -36,15 +34,4 @@ pub fn inv_mix_column(x: u32) -> u32
     let x4 = xtime(x2);
     let x8 = xtime(x4);
     stagger(x8 ^ x4 ^ x2, x8 ^ x2 ^ x, x8 ^ x4 ^ x, x8 ^ x)
-}
-
-pub fn mix_columns(s: Block) -> Block
-    ensures { λ r. ⌜ bytesOf r ≡ mixColumns (bytesOf s) ⌝ }
-{
-    Block {
-        a: mix_column(s.a),
-        b: mix_column(s.b),
-        c: mix_column(s.c),
-        d: mix_column(s.d),
-    }
 }

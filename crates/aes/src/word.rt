@@ -5,7 +5,6 @@ ghost use Prim.Native.Nat.{ℕ, _+_, _≤_, _<_};
 ghost use lib.ListN.{length, getD, take, drop};
 ghost use lib.Seq.{sets};
 ghost use Rattle.bits.specs.Words.{leBytes};
-ghost use Rattle.fips197.specs.Sbox.{TableOf};
 ghost use Rattle.fips197.specs.Cipher.{addRoundKey};
 ghost use Rattle.fips197.specs.KeyExpansion.{rotWord};
 ghost use Rattle.aes.specs.Columns.{diagonal};
@@ -57,21 +56,21 @@ fn byte3(x: u32) -> u8
     (x >> 24) as u8
 }
 
-fn entry(t: &[u8; 256], x: u8) -> u8
-    ensures { λ r. ⌜ r ≡ getD (now (t .entry)) x 0 ⌝ }
+fn entry(table: &[u8; 256], x: u8) -> u8
+    ensures { λ r. ⌜ r ≡ getD (now (table .entry)) x 0 ⌝ }
 {
-    t[x as usize]
+    table[x as usize]
 }
 
-// A byte of each of four words, through a table: whatever function the table has.
-pub fn sub_diagonal(t: &[u8; 256], a: u32, b: u32, c: u32, d: u32) -> u32
-    ensures { λ r. ⌜ ((f : ℕ → ℕ) → TableOf f (now (t .entry)) → leBytes 4 r ≡ diagonal f a b c d) ⌝ }
+// A byte of each of four words, through a table, whatever it holds.
+pub fn sub_diagonal(table: &[u8; 256], a: u32, b: u32, c: u32, d: u32) -> u32
+    ensures { λ r. ⌜ leBytes 4 r ≡ diagonal (λ x. getD (now (table .entry)) x 0) a b c d ⌝ }
 {
     pack(
-        entry(t, byte0(a)),
-        entry(t, byte1(b)),
-        entry(t, byte2(c)),
-        entry(t, byte3(d)),
+        entry(table, byte0(a)),
+        entry(table, byte1(b)),
+        entry(table, byte2(c)),
+        entry(table, byte3(d)),
     )
 }
 

@@ -7,11 +7,10 @@ use lib.ListN.{getD}
 use Rattle.bits.specs.Words.{leBytes}
 use Rattle.fips197.specs.Field.{multiply}
 use Rattle.fips197.specs.State.{word}
+use Rattle.fips197.specs.Sbox.{sbox, invSbox}
 use Rattle.fips197.specs.Cipher.{mixRow}
 use Rattle.fips197.specs.InvCipher.{invMixRow}
 use Rattle.aes.specs.Columns.{mixed}
-use Rattle.fips197.specs.declared.Direction.{Direction}
-use Rattle.fips197.specs.declared.Direction.the-variants.{Encrypt, Decrypt}
 
 -- what the byte s in row k makes of a mixed column: column k of the matrix, times s
 abbrev pub part : List ℕ → ℕ → ℕ → List ℕ
@@ -25,10 +24,13 @@ Products q n m = (i : ℕ) → i < n → leBytes 4 (getD m i 0) ≡ part q i 0
 abbrev pub MixTable : List ℕ → (ℕ → ℕ) → ℕ → List ℕ → Type 0
 MixTable q f n t = (i : ℕ) → i < n → leBytes 4 (getD t i 0) ≡ part q (f i) 0
 
--- FIPS 197 sections 5.1.3 and 5.3.3: the first row of the matrix
-abbrev pub firstRow : Direction → List ℕ
-firstRow Encrypt = mixRow
-firstRow Decrypt = invMixRow
+-- FIPS 197 sections 5.1.1 and 5.1.3: the table of the cipher
+abbrev pub MixedTable : List ℕ → Type 0
+MixedTable t = MixTable mixRow sbox 256 t
+
+-- FIPS 197 sections 5.3.2 and 5.3.3: the table of the inverse cipher
+abbrev pub InvMixedTable : List ℕ → Type 0
+InvMixedTable t = MixTable invMixRow invSbox 256 t
 
 -- FIPS 197 section 5.3.5: the first n words of a schedule with InvMixColumns applied
 abbrev pub InvMixed : List ℕ → ℕ → List ℕ → Type 0

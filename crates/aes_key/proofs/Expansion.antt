@@ -9,8 +9,8 @@ use native.Mathlib.Numerals.{add-one}
 use borrow.Author.Tests.{lt-ltb, le-ltb, eq-eqb, ne-eqb}
 use lib.Bits.{bitXor}
 use lib.Dec.{eqb, ltb, eqb→eq, lit≤}
-use lib.ListN.{length, getD, set, take, replicate}
-use lib.Seq.{getD-take, take-take, take-suc-set}
+use lib.ListN.{length, getD, set, take, drop, replicate, take-append-drop}
+use lib.Seq.{getD-take, take-take, take-suc-set, drop-drop}
 use Rattle.bits.specs.Bytes.{xorBytes}
 use Rattle.bits.specs.Words.{leBytes, leWords}
 use Rattle.bits.proofs.Choice.{cond-on, cond-off}
@@ -18,11 +18,12 @@ use Rattle.bits.proofs.Lists.{list4}
 use Rattle.bits.proofs.Table.{entry}
 use Rattle.bits.proofs.Words.{le-xor, words-append, words-take}
 use Rattle.fips197.specs.Field.{xtime}
-use Rattle.fips197.specs.KeyExpansion.{wordAt, addWords, subWord, rotWord, power, rcon, transformed, nextWord, expanded}
+use Rattle.fips197.specs.KeyExpansion.{wordAt, addWords, subWord, rotWord, power, rcon, transformed, nextWord, expanded, keyExpansion}
 use Rattle.fips197.proofs.Schedule.{power-byte}
 use Rattle.fips197.specs.Sizes.{nk}
 use Rattle.fips197.specs.declared.KeySize.{KeySize}
 use Rattle.fips197.specs.declared.KeySize.the-variants.{Aes128, Aes256}
+use Rattle.aes.specs.Form.{storedSchedule}
 use Rattle.aes.proofs.Schedule.{word-words}
 
 -- the powers of x that ten round constants need, as the code shifts for them
@@ -112,5 +113,23 @@ key-words-few Aes128 = (lit≤ tt, lit≤ tt)
 key-words-few Aes256 = (lit≤ tt, lit≤ tt)
 
 -- the key at the front of the array, as far as its size goes
-pub key-front : (n : ℕ) (w key : List ℕ) → n ≤ 8 → leWords 4 (take 8 w) ≡ key → leWords 4 (take n w) ≡ take (4 * n) key
+key-front : (n : ℕ) (w key : List ℕ) → n ≤ 8 → leWords 4 (take 8 w) ≡ key → leWords 4 (take n w) ≡ take (4 * n) key
 key-front n w key h e = ap (leWords 4) (sym (take-take n 8 w h)) ∙ words-take 4 n (take 8 w) ∙ ap (take (4 * n)) e
+
+-- zeros behind the key are zeros behind the schedule
+zeros-left : (size : KeySize) (w : List ℕ) → drop 8 w ≡ replicate 52 0
+    → leWords 4 (drop (4 * (nk size + 7)) w) ≡ replicate (4 * (60 - 4 * (nk size + 7))) 0
+zeros-left Aes128 w e = ap (leWords 4) (sym (drop-drop 36 8 w) ∙ ap (drop 36) e)
+zeros-left Aes256 w e = ap (leWords 4) (sym (drop-drop 52 8 w) ∙ ap (drop 52) e)
+
+-- all words of the array, once n of them are made of the first array's
+pub stored : (size : KeySize) (n : ℕ) (w w₀ key : List ℕ) → n ≡ 4 * (nk size + 7)
+    → leWords 4 (take n w) ≡ expanded (nk size) (leWords 4 (take (nk size) w₀)) (n - nk size) → drop n w ≡ drop n w₀
+    → leWords 4 (take 8 w₀) ≡ key → drop 8 w₀ ≡ replicate 52 0 → leWords 4 w ≡ storedSchedule size (take (4 * nk size) key)
+unfolding keyExpansion
+stored size n w w₀ key e made same front zeros =
+    ap (leWords 4) (sym (take-append-drop n w))
+    ∙ words-append 4 (take n w) (drop n w)
+    ∙ ap₂ (λ (a b : List ℕ). a ++ b)
+    (made ∙ ap₂ (λ (k : List ℕ) (m : ℕ). expanded (nk size) k (m - nk size)) (key-front (nk size) w₀ key (key-words-few size .1) front) e)
+    (ap (leWords 4) (same ∙ ap (λ (m : ℕ). drop m w₀) e) ∙ zeros-left size w₀ zeros)

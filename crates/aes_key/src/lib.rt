@@ -1,19 +1,18 @@
 // KeyExpansion, of FIPS 197 section 5.2, over the number of words in the key, nk.
 ghost use mathlib.Core.Path.{_≡_};
 ghost use mathlib.Core.List.{_++_};
-ghost use lib.ListN.{take};
+ghost use lib.ListN.{take, drop, replicate};
 ghost use Prim.Native.Nat.{ℕ, _+_, _*_, _/_, _%_, _≤_, _<_};
 ghost use Rattle.bits.specs.Words.{leBytes, leWords};
-ghost use Rattle.fips197.specs.Sbox.{sbox, TableOf};
-ghost use Rattle.fips197.specs.KeyExpansion.{power, subWord, keyExpansion, nextWord};
+ghost use Rattle.fips197.specs.Sbox.{SboxTable};
+ghost use Rattle.fips197.specs.KeyExpansion.{power, subWord, nextWord};
 ghost use Rattle.fips197.specs.KeyExpansion as fips;
 ghost use Rattle.fips197.specs.Sizes.{nk};
-ghost use Rattle.aes.specs.Form.{bytesOf, keyBytes, schedule};
+ghost use Rattle.aes.specs.Form.{bytesOf, keyBytes, storedSchedule};
 use aes::Key;
 use aes::word::rot_word;
 use aes::word::sub_diagonal;
 use fips197::KeySize;
-use sbox::sbox_table;
 
 fn key_words(size: KeySize) -> usize
     ensures { λ r. ⌜ r ≡ nk size ⌝ }
@@ -35,11 +34,11 @@ fn power_of_x(j: usize) -> u32
     27u32 << (j - 8)
 }
 
-fn sub_word(t: &[u8; 256], x: u32) -> u32
-    requires { ⌜ TableOf sbox (now t) ⌝ }
+fn sub_word(sbox: &[u8; 256], x: u32) -> u32
+    requires { ⌜ SboxTable (now sbox) ⌝ }
     ensures { λ r. ⌜ leBytes 4 r ≡ subWord (leBytes 4 x) ⌝ }
 {
-    sub_diagonal(t, x, x, x, x)
+    sub_diagonal(sbox, x, x, x, x)
 }
 
 // i / nk, by a divisor that is known where the code is compiled.
@@ -62,33 +61,33 @@ fn remainder(size: KeySize, i: usize) -> usize
 }
 
 // What is added to word i - nk to make word i; x is word i - 1.
-fn transformed(t: &[u8; 256], size: KeySize, i: usize, x: u32) -> u32
-    requires { ⌜ TableOf sbox (now t) ⌝ }
+fn transformed(sbox: &[u8; 256], size: KeySize, i: usize, x: u32) -> u32
+    requires { ⌜ SboxTable (now sbox) ⌝ }
     requires { ⌜ (nk size ≤ i) × (i < 11 * nk size) ⌝ }
     ensures { λ r. ⌜ leBytes 4 r ≡ fips.transformed (nk size) i (leBytes 4 x) ⌝ }
 {
     let m = remainder(size, i);
     if m == 0 {
-        return sub_word(t, rot_word(x)) ^ power_of_x(quotient(size, i) - 1);
+        return sub_word(sbox, rot_word(x)) ^ power_of_x(quotient(size, i) - 1);
     }
     if (6 < key_words(size)) & (m == 4) {
-        return sub_word(t, x);
+        return sub_word(sbox, x);
     }
     x
 }
 
-fn next_word(t: &[u8; 256], w: &[u32; 60], size: KeySize, i: usize) -> u32
-    requires { ⌜ TableOf sbox (now t) ⌝ }
+fn next_word(sbox: &[u8; 256], w: &[u32; 60], size: KeySize, i: usize) -> u32
+    requires { ⌜ SboxTable (now sbox) ⌝ }
     requires { ⌜ (nk size ≤ i) × (i < 11 * nk size) × (i < 60) ⌝ }
     ensures { λ r. ⌜ leBytes 4 r ≡ nextWord (nk size) i (leWords 4 (now (w .entry))) ⌝ }
 {
     let first = w[i - key_words(size)];
-    first ^ transformed(t, size, i, w[i - 1])
+    first ^ transformed(sbox, size, i, w[i - 1])
 }
 
-// The words of the key, at the front.
+// The words of the key, at the front, and zeros.
 fn key_front(key: Key) -> [u32; 60]
-    ensures { λ r. ⌜ leWords 4 (take 8 r) ≡ bytesOf (key .low) ++ bytesOf (key .high) ⌝ }
+    ensures { λ r. ⌜ (leWords 4 (take 8 r) ≡ bytesOf (key .low) ++ bytesOf (key .high)) × (drop 8 r ≡ replicate 52 0) ⌝ }
 {
     let low = key.low;
     let high = key.high;
@@ -104,25 +103,18 @@ fn key_front(key: Key) -> [u32; 60]
     w
 }
 
-// The key schedule, by a lent S-box.
-pub fn expand_with(t: &[u8; 256], size: KeySize, key: Key) -> [u32; 60]
-    requires { ⌜ TableOf sbox (now t) ⌝ }
-    ensures { λ r. ⌜ schedule size r ≡ keyExpansion (nk size) (keyBytes size key) ⌝ }
+// The key schedule, by a lent S-box; the words that AES-128 does not need are zero.
+pub fn expand_with(sbox: &[u8; 256], size: KeySize, key: Key) -> [u32; 60]
+    requires { ⌜ SboxTable (now sbox) ⌝ }
+    ensures { λ r. ⌜ leWords 4 r ≡ storedSchedule size (keyBytes size key) ⌝ }
 {
     let mut w = key_front(key);
     let mut i = key_words(size);
     let n = 4 * (key_words(size) + 7);
     while i < n {
-        let x = next_word(t, &w, size, i);
+        let x = next_word(sbox, &w, size, i);
         w[i] = x;
         i += 1;
     }
     w
-}
-
-pub fn key_expansion(size: KeySize, key: Key) -> [u32; 60]
-    ensures { λ r. ⌜ schedule size r ≡ keyExpansion (nk size) (keyBytes size key) ⌝ }
-{
-    let t = sbox_table();
-    expand_with(&t, size, key)
 }

@@ -4,7 +4,7 @@ use mathlib.Core.Path.{_≡_, _∙_, refl, sym, ap, ap₂}
 use mathlib.Core.Bool.{Bool, true, false, cond, not, _&&_, _||_}
 use mathlib.Core.List.{List, _++_}
 use mathlib.Core.Option.{Option, none, some, Option·some-injective, Option·none-ne-some, Option·some-ne-none}
-use Prim.Native.Nat.{ℕ, zero, _+_, _*_, _^_, _/_, _%_, _<_}
+use Prim.Native.Nat.{ℕ, zero, _+_, _*_, _^_, _/_, _%_, _≤_, _<_}
 use native.Mathlib.Omega.{arith}
 use lib.Dec.{eqb, ltb}
 use lib.ListN.{length, take, replicate}
@@ -18,6 +18,7 @@ use Rattle.handle.specs.Wrap.{decrypted, unwrapKey}
 use Rattle.handle.proofs.Wrap.{masked-length, unwrap-key}
 use Rattle.fips197.specs.Sizes.{nk}
 use Rattle.aes.specs.Form.{bytesOf, keyBytes}
+use Rattle.aes.proofs.Schedule.{rounds-few}
 use Rattle.fips197.specs.declared.Direction.{Direction}
 use Rattle.aes.specs.declared.Key.{Key}
 use Rattle.fips197.specs.declared.KeySize.{KeySize}
@@ -99,8 +100,10 @@ illegal-words cpl size direction a b c d ha hb hc hd =
 
 -- a key's struct and the key that was padded into it
 key-told : (size : KeySize) (k : Key) (key : List ℕ) → wholeKey k ≡ padded 32 key → length key ≡ 4 * nk size → keyBytes size k ≡ key
-key-told Aes128 k key e n = ap (take 16) e ∙ take-take 16 32 (key ++ replicate 16 0) (omega arith) ∙ take-at key (replicate 16 0) 16 n
-key-told Aes256 k key e n = ap (take 32) e ∙ take-take 32 32 (key ++ replicate 16 0) (omega arith) ∙ take-at key (replicate 16 0) 32 n
+key-told size k key e n =
+    let m = 4 * nk size in
+    let few : 4 * nk size ≤ 32 = omega (arith, rounds-few size) in
+    ap (take m) e ∙ take-take m 32 (key ++ replicate 16 0) few ∙ take-at key (replicate 16 0) m n
 
 module _ (k : IwKey) (cpl : ℕ) (size : KeySize) (direction : Direction) (h : Handle) where
   abbrev bytes : List ℕ

@@ -4,10 +4,9 @@ ghost use mathlib.Core.List.{[], _∷_};
 ghost use Prim.Native.Nat.{_/_};
 ghost use lib.ListN.{length};
 ghost use Rattle.bits.specs.Blocks.{mapBlocks};
-ghost use Rattle.fips197.specs.Cipher.{mixRow};
-ghost use Rattle.fips197.specs.Sbox.{sbox, TableOf};
+ghost use Rattle.fips197.specs.Sbox.{SboxTable};
 ghost use Rattle.aes.specs.Form.{bytesOf, keyBytes};
-ghost use Rattle.aes_blocks.specs.Tables.{MixTable};
+ghost use Rattle.aes_blocks.specs.Tables.{MixedTable};
 ghost use Rattle.handle.specs.Wrap.{unwrapKey};
 ghost use Rattle.keywrap.specs.Form.{opened, paddedKey, handleBytes};
 ghost use Rattle.model.specs.Cpu.{cpl, withXmm, withZf, mapXmm};
@@ -20,7 +19,7 @@ use aes_blocks::decrypt_block;
 use aes_blocks::decrypt_blocks;
 use aes_blocks::encrypt_block_with;
 use aes_blocks::encrypt_blocks_with;
-use aes_blocks::tables::fill_table;
+use aes_blocks::tables::mix_table;
 use aes_key::expand_with;
 use cpu::put_xmm;
 use cpu::put_zf;
@@ -73,16 +72,22 @@ fn illegal_at(cpu: &[u8; 408], size: KeySize, direction: Direction, aad: Block) 
 }
 
 // What the IWKey unwraps, by lent tables.
-fn unwrapped_by(t: &[u32; 256], u: &[u8; 256], k: IwKey, size: KeySize, h: Handle) -> Unwrapped
-    requires { ⌜ MixTable mixRow sbox 256 (now t) ⌝ }
-    requires { ⌜ TableOf sbox (now u) ⌝ }
+fn unwrapped_by(
+    mixed: &[u32; 256],
+    sbox: &[u8; 256],
+    k: IwKey,
+    size: KeySize,
+    h: Handle,
+) -> Unwrapped
+    requires { ⌜ MixedTable (now mixed) ⌝ }
+    requires { ⌜ SboxTable (now sbox) ⌝ }
     ensures { λ r. ⌜ opened r ≡ paddedKey (unwrapKey (k .integrity) (k .encryption) (handleBytes size h)) ⌝ }
 {
     let integrity = k.integrity;
     let encryption = k.encryption;
     unwrap_with(
-        t,
-        u,
+        mixed,
+        sbox,
         size,
         from_bytes(integrity),
         key_from_bytes(encryption),
@@ -93,39 +98,39 @@ fn unwrapped_by(t: &[u32; 256], u: &[u8; 256], k: IwKey, size: KeySize, h: Handl
 // ---- blocks
 
 fn cipher_block(
-    t: &[u32; 256],
-    u: &[u8; 256],
+    mixed: &[u32; 256],
+    sbox: &[u8; 256],
     direction: Direction,
     size: KeySize,
     key: Key,
     b: Block,
 ) -> Block
-    requires { ⌜ MixTable mixRow sbox 256 (now t) ⌝ }
-    requires { ⌜ TableOf sbox (now u) ⌝ }
+    requires { ⌜ MixedTable (now mixed) ⌝ }
+    requires { ⌜ SboxTable (now sbox) ⌝ }
     ensures { λ r. ⌜ bytesOf r ≡ model.aes direction size (keyBytes size key) (bytesOf b) ⌝ }
 {
-    let w = expand_with(u, size, key);
+    let w = expand_with(sbox, size, key);
     match direction {
-        Direction::Encrypt => encrypt_block_with(t, u, size, &w, b),
+        Direction::Encrypt => encrypt_block_with(mixed, sbox, size, &w, b),
         Direction::Decrypt => decrypt_block(size, &w, b),
     }
 }
 
 fn cipher_blocks(
-    t: &[u32; 256],
-    u: &[u8; 256],
+    mixed: &[u32; 256],
+    sbox: &[u8; 256],
     direction: Direction,
     size: KeySize,
     key: Key,
     bytes: &mut [u8],
 )
-    requires { ⌜ MixTable mixRow sbox 256 (now t) ⌝ }
-    requires { ⌜ TableOf sbox (now u) ⌝ }
+    requires { ⌜ MixedTable (now mixed) ⌝ }
+    requires { ⌜ SboxTable (now sbox) ⌝ }
     ensures { λ _. ⌜ now (bytes .exit) ≡ mapBlocks (model.aes direction size (keyBytes size key)) (length (now (bytes .entry)) / 16) (now (bytes .entry)) ⌝ }
 {
-    let w = expand_with(u, size, key);
+    let w = expand_with(sbox, size, key);
     match direction {
-        Direction::Encrypt => encrypt_blocks_with(t, u, size, &w, bytes),
+        Direction::Encrypt => encrypt_blocks_with(mixed, sbox, size, &w, bytes),
         Direction::Decrypt => decrypt_blocks(size, &w, bytes),
     }
 }
@@ -151,19 +156,19 @@ fn done_single(cpu: [u8; 408], n: u8, b: Block) -> [u8; 408]
 
 // XMM0 to XMM7 are the first 128 bytes of the record.
 fn done_wide(
-    t: &[u32; 256],
-    u: &[u8; 256],
+    mixed: &[u32; 256],
+    sbox: &[u8; 256],
     direction: Direction,
     size: KeySize,
     key: Key,
     cpu: [u8; 408],
 ) -> [u8; 408]
-    requires { ⌜ MixTable mixRow sbox 256 (now t) ⌝ }
-    requires { ⌜ TableOf sbox (now u) ⌝ }
+    requires { ⌜ MixedTable (now mixed) ⌝ }
+    requires { ⌜ SboxTable (now sbox) ⌝ }
     ensures { λ r. ⌜ r ≡ withZf 0 (mapXmm (model.aes direction size (keyBytes size key)) (0 ∷ 1 ∷ 2 ∷ 3 ∷ 4 ∷ 5 ∷ 6 ∷ 7 ∷ []) cpu) ⌝ }
 {
     let mut c = cpu;
-    cipher_blocks(t, u, direction, size, key, &mut c[0..128]);
+    cipher_blocks(mixed, sbox, direction, size, key, &mut c[0..128]);
     put_zf(&mut c, 0);
     c
 }
@@ -182,13 +187,13 @@ pub fn use_single(
     if illegal_at(&cpu, size, direction, h.aad) {
         return failed(cpu);
     }
-    let u = sbox_table();
-    let mut t = [0u32; 256];
-    fill_table(Direction::Encrypt, &u, &mut t);
-    let Unwrapped::Key(key) = unwrapped_by(&t, &u, k, size, h) else {
+    let sbox = sbox_table();
+    let mut mixed = [0u32; 256];
+    mix_table(&sbox, &mut mixed);
+    let Unwrapped::Key(key) = unwrapped_by(&mixed, &sbox, k, size, h) else {
         return failed(cpu);
     };
-    let b = cipher_block(&t, &u, direction, size, key, xmm(&cpu, block));
+    let b = cipher_block(&mixed, &sbox, direction, size, key, xmm(&cpu, block));
     done_single(cpu, block, b)
 }
 
@@ -205,11 +210,11 @@ pub fn use_wide(
     if illegal_at(&cpu, size, direction, h.aad) {
         return failed(cpu);
     }
-    let u = sbox_table();
-    let mut t = [0u32; 256];
-    fill_table(Direction::Encrypt, &u, &mut t);
-    let Unwrapped::Key(key) = unwrapped_by(&t, &u, k, size, h) else {
+    let sbox = sbox_table();
+    let mut mixed = [0u32; 256];
+    mix_table(&sbox, &mut mixed);
+    let Unwrapped::Key(key) = unwrapped_by(&mixed, &sbox, k, size, h) else {
         return failed(cpu);
     };
-    done_wide(&t, &u, direction, size, key, cpu)
+    done_wide(&mixed, &sbox, direction, size, key, cpu)
 }

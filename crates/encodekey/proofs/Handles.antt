@@ -12,9 +12,10 @@ use Rattle.bits.proofs.Words.{le-append}
 use Rattle.handle.specs.Format.{aad}
 use Rattle.fips197.specs.Sizes.{nk}
 use Rattle.aes.specs.Form.{keyBytes}
+use Rattle.aes.proofs.Schedule.{rounds-few}
+use Rattle.keywrap.proofs.Sizes.{first-bytes}
 use Rattle.aes.specs.declared.Key.{Key}
 use Rattle.fips197.specs.declared.KeySize.{KeySize}
-use Rattle.fips197.specs.declared.KeySize.the-variants.{Aes128, Aes256}
 use Rattle.isa.specs.Ranges.{handleLength}
 use Rattle.keywrap.specs.Form.{wholeKey, wholeHandle, handleBytes, padded}
 use Rattle.keywrap.specs.declared.Handle.{Handle}
@@ -32,13 +33,12 @@ aad-word t r x h e =
 -- ---- key and handle in their structs
 
 pub key-read : (size : KeySize) (k : Key) (cpu : List ℕ) → wholeKey k ≡ take 32 cpu → keyBytes size k ≡ take (4 * nk size) cpu
-key-read Aes128 k cpu e = ap (take 16) e ∙ take-take 16 32 cpu (omega arith)
-key-read Aes256 k cpu e = ap (take 32) e ∙ take-take 32 32 cpu (omega arith)
+key-read size k cpu e = ap (take (4 * nk size)) e ∙ take-take (4 * nk size) 32 cpu (omega (arith, rounds-few size))
 
 pub handle-read : (size : KeySize) (h : Handle) (w : List ℕ) → wholeHandle h ≡ padded 64 w → length w ≡ handleLength size → handleBytes size h ≡ w
-handle-read Aes128 h w e n =
-    ap (take 48) e ∙ take-take 48 64 (w ++ replicate 16 0) (omega arith) ∙ take-at w (replicate 16 0) 48 n
-handle-read Aes256 h w e n = e ∙ take-at w (replicate 16 0) 64 n
+handle-read size h w e n =
+    let m = 32 + 4 * nk size in
+    first-bytes size h ∙ ap (take m) e ∙ take-take m 64 (w ++ replicate 16 0) (omega (arith, rounds-few size)) ∙ take-at w (replicate 16 0) m n
 
 -- ---- stores
 

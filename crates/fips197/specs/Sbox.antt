@@ -47,3 +47,9 @@ invSbox b = inverse (invAffine b)
 -- 5.1.1, figure 7, and 5.3.2, figure 14: a table has f of each byte at that byte's place
 abbrev pub TableOf : (ℕ → ℕ) → List ℕ → Type 0
 TableOf f t = (b : ℕ) → b < 256 → getD t b 0 ≡ f b
+
+abbrev pub SboxTable : List ℕ → Type 0
+SboxTable t = TableOf sbox t
+
+abbrev pub InvSboxTable : List ℕ → Type 0
+InvSboxTable t = TableOf invSbox t

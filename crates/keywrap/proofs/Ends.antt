@@ -1,14 +1,13 @@
 -- POLYVAL, wrapping and unwrapping from their steps.
 -- Assumes nothing.
 use mathlib.Core.Path.{_≡_, refl, sym, ap, ap₂, _∙_}
-use mathlib.Core.Bool.{true, false}
+use mathlib.Core.Bool.{Bool, true, false, cond}
 use mathlib.Core.List.{List, [], _∷_, _++_, map, map-append, flatMap}
 use mathlib.Core.Option.{Option, none, some}
 use Prim.Native.Nat.{ℕ, _*_, _/_, _≤_}
 use lib.ListN.{length, take}
 use Rattle.bits.specs.Bytes.{xorBytes, alike}
 use Rattle.bits.specs.Words.{leValue}
-use Rattle.bits.proofs.Choice.{cond-on, cond-off}
 use Rattle.fips197.specs.Aes.{encrypt}
 use Rattle.fips197.specs.Cipher.{cipher}
 use Rattle.fips197.specs.KeyExpansion.{keyExpansion}
@@ -21,6 +20,10 @@ use Rattle.handle.specs.Wrap.{hashed, clearTop, tag, counterBlocks, keystream, 
 use Rattle.handle.proofs.Wrap.{masked-length, handle-aad, handle-tag, handle-ciphertext}
 use Rattle.keywrap.specs.Form.{padded, paddedKey}
 use Rattle.keywrap.proofs.Parts.{unpadded, handle-padded}
+
+padded-cond : (key : List ℕ) (b : Bool) → _≡_ {A = Option (List ℕ)} (cond b (some (padded 32 key)) none) (paddedKey (cond b (some key) none))
+padded-cond key true = refl
+padded-cond key false = refl
 
 pub hash-ends : (h : ℕ) (aad len : List ℕ) (bs : List (List ℕ)) (s₁ s₂ s₃ : ℕ) → s₁ ≡ dot (add 0 (leValue aad)) h → s₂ ≡ polyvalFrom h s₁ (map leValue bs)
     → s₃ ≡ dot (add s₂ (leValue len)) h → s₃ ≡ polyvalFrom h 0 (map leValue (aad ∷ (bs ++ (len ∷ []))))
@@ -81,12 +84,7 @@ module _ (e w : List ℕ) (expanded : w ≡ keyExpansion 8 e) where
     compared t′ f =
         ap₂ alike (f ∙ tagged i a key ∙ ap₂ (tag i e) (sym (handle-aad a t c ha)) taken) (sym (handle-tag a t c ha ht))
 
-    pub unwrap-opens : (t′ : List ℕ) → t′ ≡ cipher w 14 (clearTop (hashed i a key)) → alike t′ t ≡ true → some k ≡ paddedKey (unwrapKey i e (handle a t c))
+    -- an answer that hands out the key where the tags agree, and none where not
+    pub unwrap-ends : (t′ : List ℕ) → t′ ≡ cipher w 14 (clearTop (hashed i a key)) → cond (alike t′ t) (some k) none ≡ paddedKey (unwrapKey i e (handle a t c))
     unfolding unwrapKey
-    unwrap-opens t′ f g =
-        ap {B = Option (List ℕ)} some filled
-        ∙ sym (ap paddedKey (cond-on (sym (compared t′ f) ∙ g) (some (decrypted e (handle a t c))) none))
-
-    pub unwrap-refuses : (t′ : List ℕ) → t′ ≡ cipher w 14 (clearTop (hashed i a key)) → alike t′ t ≡ false → none ≡ paddedKey (unwrapKey i e (handle a t c))
-    unfolding unwrapKey
-    unwrap-refuses t′ f g = sym (ap paddedKey (cond-off (sym (compared t′ f) ∙ g) (some (decrypted e (handle a t c))) none))
+    unwrap-ends t′ f = ap₂ (λ (b : Bool) (x : List ℕ). cond b (some x) none) (compared t′ f) filled ∙ padded-cond (decrypted e (handle a t c)) (alike (tag i e (aadOf (handle a t c)) (decrypted e (handle a t c))) (tagOf (handle a t c)))

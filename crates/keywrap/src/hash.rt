@@ -1,14 +1,14 @@
 // POLYVAL over AAD, key and length block.
 ghost use mathlib.Core.Path.{_≡_};
 ghost use mathlib.Core.List.{map};
-ghost use Prim.Native.Nat.{ℕ, _/_, _^_, _<_};
+ghost use Prim.Native.Nat.{_/_};
 ghost use lib.ListN.{length};
 ghost use Rattle.bits.specs.Blocks.{blocks};
 ghost use Rattle.bits.specs.Words.{leValue};
 ghost use Rattle.fips197.specs.Sizes.{nk};
 ghost use Rattle.aes.specs.Form.{bytesOf, keyBytes};
 ghost use Rattle.rfc8452.specs.Polyval.{polyvalFrom};
-ghost use Rattle.polyval.specs.Form.{num, Multiples};
+ghost use Rattle.polyval.specs.Form.{num, first, MultiplesTable};
 ghost use Rattle.handle.specs.Wrap as handle;
 use aes::Block;
 use aes::Key;
@@ -39,21 +39,22 @@ fn length_block(size: KeySize, aad: Block, key: Key) -> Block
     }
 }
 
-fn hash_key(t: &[u64; 32], s: Element, size: KeySize, key: Key) -> Element
-    ensures { λ r. ⌜ ((h : ℕ) → h < 2 ^ 128 → Multiples h (now (t .entry)) → num r ≡ polyvalFrom h (num s) (map leValue (blocks (length (keyBytes size key) / 16) (keyBytes size key)))) ⌝ }
+fn hash_key(multiples: &[u64; 32], s: Element, size: KeySize, key: Key) -> Element
+    requires { ⌜ MultiplesTable (now multiples) ⌝ }
+    ensures { λ r. ⌜ num r ≡ polyvalFrom (first (now (multiples .entry))) (num s) (map leValue (blocks (length (keyBytes size key) / 16) (keyBytes size key))) ⌝ }
 {
-    let low = update(t, s, key.low);
+    let low = update(multiples, s, key.low);
     match size {
         KeySize::Aes128 => low,
-        KeySize::Aes256 => update(t, low, key.high),
+        KeySize::Aes256 => update(multiples, low, key.high),
     }
 }
 
-pub fn hashed(integrity: Block, aad: Block, size: KeySize, key: Key) -> Block
+pub(crate) fn hashed(integrity: Block, aad: Block, size: KeySize, key: Key) -> Block
     ensures { λ r. ⌜ bytesOf r ≡ handle.hashed (bytesOf integrity) (bytesOf aad) (keyBytes size key) ⌝ }
 {
-    let t = multiples(from_block(integrity));
-    let first = update(&t, Element { lo: 0, hi: 0 }, aad);
-    let second = hash_key(&t, first, size, key);
-    to_block(update(&t, second, length_block(size, aad, key)))
+    let table = multiples(from_block(integrity));
+    let first = update(&table, Element { lo: 0, hi: 0 }, aad);
+    let second = hash_key(&table, first, size, key);
+    to_block(update(&table, second, length_block(size, aad, key)))
 }

@@ -4,12 +4,12 @@ ghost use mathlib.Core.List.{flatMap};
 ghost use Prim.Native.Nat.{ℕ, _/_};
 ghost use lib.ListN.{length};
 ghost use Rattle.bits.specs.Bytes.{xorBytes, alike};
-ghost use Rattle.fips197.specs.Cipher.{mixRow, cipher};
-ghost use Rattle.fips197.specs.Sbox.{sbox, TableOf};
+ghost use Rattle.fips197.specs.Cipher.{cipher};
+ghost use Rattle.fips197.specs.Sbox.{SboxTable};
 ghost use Rattle.fips197.specs.Sizes.{nr};
 ghost use Rattle.aes.specs.Form.{bytesOf, keyBytes, schedule};
 ghost use Rattle.fips197.specs.declared.KeySize.the-variants.{Aes256};
-ghost use Rattle.aes_blocks.specs.Tables.{MixTable};
+ghost use Rattle.aes_blocks.specs.Tables.{MixedTable};
 ghost use Rattle.handle.specs.Wrap as handle;
 ghost use Rattle.handle.specs.Wrap.{wrapKey, unwrapKey};
 ghost use Rattle.keywrap.specs.Form.{handleBytes, wholeKey, wholeHandle, padded, opened, paddedKey};
@@ -19,9 +19,8 @@ use crate::hash::hashed;
 use aes::Block;
 use aes::Key;
 use aes_blocks::encrypt_block_with;
-use aes_blocks::tables::fill_table;
+use aes_blocks::tables::mix_table;
 use aes_key::expand_with;
-use fips197::Direction;
 use fips197::KeySize;
 use sbox::sbox_table;
 
@@ -66,48 +65,55 @@ fn same(a: Block, b: Block) -> bool
 }
 
 fn tag_with(
-    t: &[u32; 256],
-    u: &[u8; 256],
+    mixed: &[u32; 256],
+    sbox: &[u8; 256],
     w: &[u32; 60],
     integrity: Block,
     aad: Block,
     size: KeySize,
     key: Key,
 ) -> Block
-    requires { ⌜ MixTable mixRow sbox 256 (now t) ⌝ }
-    requires { ⌜ TableOf sbox (now u) ⌝ }
+    requires { ⌜ MixedTable (now mixed) ⌝ }
+    requires { ⌜ SboxTable (now sbox) ⌝ }
     ensures { λ r. ⌜ bytesOf r ≡ cipher (schedule Aes256 (now (w .entry))) (nr Aes256) (handle.clearTop (handle.hashed (bytesOf integrity) (bytesOf aad) (keyBytes size key))) ⌝ }
 {
     let h = clear_top(hashed(integrity, aad, size, key));
-    encrypt_block_with(t, u, KeySize::Aes256, w, h)
+    encrypt_block_with(mixed, sbox, KeySize::Aes256, w, h)
 }
 
 // A block XORed with block i of the keystream.
-fn mask_block(t: &[u32; 256], u: &[u8; 256], w: &[u32; 60], tag: Block, i: u32, b: Block) -> Block
-    requires { ⌜ MixTable mixRow sbox 256 (now t) ⌝ }
-    requires { ⌜ TableOf sbox (now u) ⌝ }
+fn mask_block(
+    mixed: &[u32; 256],
+    sbox: &[u8; 256],
+    w: &[u32; 60],
+    tag: Block,
+    i: u32,
+    b: Block,
+) -> Block
+    requires { ⌜ MixedTable (now mixed) ⌝ }
+    requires { ⌜ SboxTable (now sbox) ⌝ }
     ensures { λ r. ⌜ bytesOf r ≡ xorBytes (bytesOf b) (cipher (schedule Aes256 (now (w .entry))) (nr Aes256) (handle.counterBlock (bytesOf tag) i)) ⌝ }
 {
     xor_block(
         b,
-        encrypt_block_with(t, u, KeySize::Aes256, w, counter_block(tag, i)),
+        encrypt_block_with(mixed, sbox, KeySize::Aes256, w, counter_block(tag, i)),
     )
 }
 
 // A key, or its ciphertext, XORed with the keystream.
 fn mask_with(
-    t: &[u32; 256],
-    u: &[u8; 256],
+    mixed: &[u32; 256],
+    sbox: &[u8; 256],
     w: &[u32; 60],
     tag: Block,
     size: KeySize,
     key: Key,
 ) -> Key
-    requires { ⌜ MixTable mixRow sbox 256 (now t) ⌝ }
-    requires { ⌜ TableOf sbox (now u) ⌝ }
+    requires { ⌜ MixedTable (now mixed) ⌝ }
+    requires { ⌜ SboxTable (now sbox) ⌝ }
     ensures { λ r. ⌜ wholeKey r ≡ padded 32 (xorBytes (keyBytes size key) (flatMap (cipher (schedule Aes256 (now (w .entry))) (nr Aes256)) (handle.counterBlocks (bytesOf tag) 0 (length (keyBytes size key) / 16)))) ⌝ }
 {
-    let low = mask_block(t, u, w, tag, 0, key.low);
+    let low = mask_block(mixed, sbox, w, tag, 0, key.low);
     match size {
         KeySize::Aes128 => Key {
             low,
@@ -120,7 +126,7 @@ fn mask_with(
         },
         KeySize::Aes256 => Key {
             low,
-            high: mask_block(t, u, w, tag, 1, key.high),
+            high: mask_block(mixed, sbox, w, tag, 1, key.high),
         },
     }
 }
@@ -129,12 +135,12 @@ fn mask_with(
 pub fn wrap(size: KeySize, integrity: Block, encryption: Key, aad: Block, key: Key) -> Handle
     ensures { λ r. ⌜ wholeHandle r ≡ padded 64 (wrapKey (bytesOf integrity) (keyBytes Aes256 encryption) (bytesOf aad) (keyBytes size key)) ⌝ }
 {
-    let u = sbox_table();
-    let mut t = [0u32; 256];
-    fill_table(Direction::Encrypt, &u, &mut t);
-    let w = expand_with(&u, KeySize::Aes256, encryption);
-    let tag = tag_with(&t, &u, &w, integrity, aad, size, key);
-    let ciphertext = mask_with(&t, &u, &w, tag, size, key);
+    let sbox = sbox_table();
+    let mut mixed = [0u32; 256];
+    mix_table(&sbox, &mut mixed);
+    let w = expand_with(&sbox, KeySize::Aes256, encryption);
+    let tag = tag_with(&mixed, &sbox, &w, integrity, aad, size, key);
+    let ciphertext = mask_with(&mixed, &sbox, &w, tag, size, key);
     Handle {
         aad,
         tag,
@@ -144,31 +150,22 @@ pub fn wrap(size: KeySize, integrity: Block, encryption: Key, aad: Block, key: K
 
 // UnwrapKeyAndAuthenticate384 and UnwrapKeyAndAuthenticate512, by lent tables.
 pub fn unwrap_with(
-    t: &[u32; 256],
-    u: &[u8; 256],
+    mixed: &[u32; 256],
+    sbox: &[u8; 256],
     size: KeySize,
     integrity: Block,
     encryption: Key,
     handle: Handle,
 ) -> Unwrapped
-    requires { ⌜ MixTable mixRow sbox 256 (now t) ⌝ }
-    requires { ⌜ TableOf sbox (now u) ⌝ }
+    requires { ⌜ MixedTable (now mixed) ⌝ }
+    requires { ⌜ SboxTable (now sbox) ⌝ }
     ensures { λ r. ⌜ opened r ≡ paddedKey (unwrapKey (bytesOf integrity) (keyBytes Aes256 encryption) (handleBytes size handle)) ⌝ }
 {
-    let w = expand_with(u, KeySize::Aes256, encryption);
-    let key = mask_with(t, u, &w, handle.tag, size, handle.ciphertext);
-    let tag = tag_with(t, u, &w, integrity, handle.aad, size, key);
+    let w = expand_with(sbox, KeySize::Aes256, encryption);
+    let key = mask_with(mixed, sbox, &w, handle.tag, size, handle.ciphertext);
+    let tag = tag_with(mixed, sbox, &w, integrity, handle.aad, size, key);
     if same(tag, handle.tag) {
         return Unwrapped::Key(key);
     }
     Unwrapped::Refused
-}
-
-pub fn unwrap(size: KeySize, integrity: Block, encryption: Key, handle: Handle) -> Unwrapped
-    ensures { λ r. ⌜ opened r ≡ paddedKey (unwrapKey (bytesOf integrity) (keyBytes Aes256 encryption) (handleBytes size handle)) ⌝ }
-{
-    let u = sbox_table();
-    let mut t = [0u32; 256];
-    fill_table(Direction::Encrypt, &u, &mut t);
-    unwrap_with(&t, &u, size, integrity, encryption, handle)
 }

@@ -1,4 +1,4 @@
-// POLYVAL and wrapping for C callers: what bench/ measures. A `size` of 0 is AES-128, any other AES-256; of a key or handle for AES-128
+// POLYVAL over the blocks of a slice, unwrapping with its tables made, and the same and wrapping for C callers, which bench/ measures. A `size` of 0 is AES-128, any other AES-256; of a key or handle for AES-128
 // the last 16 bytes are not read, and written as zeros.
 ghost use mathlib.Core.Path.{_≡_};
 ghost use mathlib.Core.List.{_++_};
@@ -9,17 +9,30 @@ ghost use Rattle.rfc8452.specs.Polyval as rfc;
 ghost use Rattle.fips197.specs.Sizes.{nk};
 ghost use Rattle.aes_c.specs.Size.{sizeOf};
 ghost use Rattle.handle.specs.Wrap.{wrapKey, unwrapKey};
-ghost use Rattle.keywrap.specs.Form.{wholeKey, wholeHandle, padded, paddedKey, opened};
+ghost use Rattle.fips197.specs.declared.KeySize.the-variants.{Aes256};
+ghost use Rattle.aes.specs.Form.{bytesOf, keyBytes};
+ghost use Rattle.keywrap.specs.Form.{handleBytes, wholeKey, wholeHandle, padded, paddedKey, opened};
 ghost use Rattle.keywrap_c.specs.Answer as answer;
+use aes::Block;
 use aes::Key;
 use aes::word::block_at;
 use aes::word::from_bytes;
 use aes::word::key_from_bytes;
 use aes::word::put_block;
 use aes::word::to_bytes;
+use aes_blocks::tables::mix_table;
 use aes_c::key_size;
+use fips197::KeySize;
 use keywrap::Handle;
 use keywrap::Unwrapped;
+use keywrap::siv::unwrap_with;
+use keywrap::siv::wrap;
+use polyval::Element;
+use polyval::field::from_block;
+use polyval::field::to_block;
+use polyval::hash::update;
+use polyval::table::multiples;
+use sbox::sbox_table;
 
 fn key_to_bytes(k: Key) -> [u8; 32]
     ensures { λ r. ⌜ r ≡ wholeKey k ⌝ }
@@ -74,12 +87,37 @@ fn bytes(u: Unwrapped) -> [u8; 32]
     key_to_bytes(k)
 }
 
+// POLYVAL of the whole blocks of a slice.
+pub fn polyval(h: Block, bytes: &[u8]) -> Block
+    ensures { λ r. ⌜ bytesOf r ≡ rfc.polyval (bytesOf h) (blocks (length (now (bytes .entry)) / 16) (now (bytes .entry))) ⌝ }
+{
+    let table = multiples(from_block(h));
+    let n = bytes.len() / 16;
+    let mut s = Element { lo: 0, hi: 0 };
+    let mut i: usize = 0;
+    while i < n {
+        let v = update(&table, s, block_at(bytes, 16 * i));
+        s = v;
+        i += 1;
+    }
+    to_block(s)
+}
+
+pub fn unwrap(size: KeySize, integrity: Block, encryption: Key, handle: Handle) -> Unwrapped
+    ensures { λ r. ⌜ opened r ≡ paddedKey (unwrapKey (bytesOf integrity) (keyBytes Aes256 encryption) (handleBytes size handle)) ⌝ }
+{
+    let sbox = sbox_table();
+    let mut mixed = [0u32; 256];
+    mix_table(&sbox, &mut mixed);
+    unwrap_with(&mixed, &sbox, size, integrity, encryption, handle)
+}
+
 #[no_mangle]
 pub extern "C" fn polyval_blocks(h: &[u8; 16], message: &[u8], result: &mut [u8; 16])
     ensures { λ _. ⌜ now (result .exit) ≡ rfc.polyval (now (h .entry)) (blocks (length (now (message .entry)) / 16) (now (message .entry))) ⌝ }
 {
     let k = *h;
-    let r = to_bytes(polyval::hash::polyval(from_bytes(k), message));
+    let r = to_bytes(polyval(from_bytes(k), message));
     *result = r;
 }
 
@@ -98,7 +136,7 @@ pub extern "C" fn keywrap_wrap(
     let e = *encryption;
     let a = *aad;
     let k = *key;
-    let h = keywrap::siv::wrap(
+    let h = wrap(
         key_size(size),
         from_bytes(i),
         key_from_bytes(e),
@@ -122,7 +160,7 @@ pub extern "C" fn keywrap_unwrap(
     let i = *integrity;
     let e = *encryption;
     let h = *handle;
-    let u = keywrap::siv::unwrap(
+    let u = unwrap(
         key_size(size),
         from_bytes(i),
         key_from_bytes(e),

@@ -19,3 +19,11 @@ value w = add (timesXTo 128 (w .w2)) (w .w1 * 2 ^ 64 + w .w0)
 -- the table of the sixteen multiples of h by polynomials of degree below 4: two words each, the low one first
 abbrev pub Multiples : ℕ → List ℕ → Type 0
 Multiples h t = (u : ℕ) → u < 16 → getD t (2 * u + 1) 0 * 2 ^ 64 + getD t (2 * u) 0 ≡ multiply h u
+
+-- the multiple by 1
+abbrev pub first : List ℕ → ℕ
+first t = getD t 3 0 * 2 ^ 64 + getD t 2 0
+
+-- a table is that of its multiple by 1
+abbrev pub MultiplesTable : List ℕ → Type 0
+MultiplesTable t = (first t < 2 ^ 128) × Multiples (first t) t

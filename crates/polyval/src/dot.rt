@@ -1,12 +1,11 @@
 // The dot product with the hash key, from the key's table: each half of the other factor by Horner's rule, four bits at a time, and a division by x^64.
 ghost use mathlib.Core.Path.{_≡_};
-ghost use Prim.Native.Nat.{ℕ, _+_, _*_, _/_, _^_, _≤_, _<_};
+ghost use Prim.Native.Nat.{_+_, _*_, _/_, _^_, _<_};
 ghost use Rattle.rfc8452.specs.Field as rfc;
 ghost use Rattle.rfc8452.specs.Field.{timesXTo};
-ghost use Rattle.polyval.specs.Form.{num, value, Multiples};
+ghost use Rattle.polyval.specs.Form.{num, value, first, MultiplesTable};
 use crate::Element;
 use crate::Wide;
-use crate::field::add;
 use crate::table::entry;
 
 // w * x^4 + m
@@ -22,8 +21,9 @@ fn shift_add(w: Wide, m: Element) -> Wide
 }
 
 // The product of the table's element and a polynomial of degree below 64.
-fn product(t: &[u64; 32], x: u64) -> Wide
-    ensures { λ r. ⌜ ((h : ℕ) → h < 2 ^ 128 → Multiples h (now (t .entry)) → value r ≡ rfc.multiply h x) ⌝ }
+fn product(multiples: &[u64; 32], x: u64) -> Wide
+    requires { ⌜ MultiplesTable (now multiples) ⌝ }
+    ensures { λ r. ⌜ value r ≡ rfc.multiply (first (now (multiples .entry))) x ⌝ }
 {
     let mut w = Wide {
         w0: 0,
@@ -33,7 +33,7 @@ fn product(t: &[u64; 32], x: u64) -> Wide
     let mut s: u64 = 64;
     while 0 < s {
         s -= 4;
-        let v = shift_add(w, entry(t, x >> s));
+        let v = shift_add(w, entry(multiples, x >> s));
         w = v;
     }
     w
@@ -60,9 +60,10 @@ fn add_wide(w: Wide, e: Element) -> Wide
     }
 }
 
-pub fn dot(t: &[u64; 32], a: Element) -> Element
-    ensures { λ r. ⌜ ((h : ℕ) → h < 2 ^ 128 → Multiples h (now (t .entry)) → num r ≡ rfc.dot (num a) h) ⌝ }
+pub fn dot(multiples: &[u64; 32], a: Element) -> Element
+    requires { ⌜ MultiplesTable (now multiples) ⌝ }
+    ensures { λ r. ⌜ num r ≡ rfc.dot (num a) (first (now (multiples .entry))) ⌝ }
 {
-    let low = reduce(product(t, a.lo));
-    reduce(add_wide(product(t, a.hi), low))
+    let low = reduce(product(multiples, a.lo));
+    reduce(add_wide(product(multiples, a.hi), low))
 }

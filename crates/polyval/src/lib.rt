@@ -2,7 +2,6 @@
 pub mod dot;
 pub mod field;
 pub mod hash;
-pub mod product;
 pub mod table;
 
 // Coefficient i of x is bit i of lo, coefficient 64 + i bit i of hi.

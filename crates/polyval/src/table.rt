@@ -2,32 +2,33 @@
 ghost use mathlib.Core.Path.{_≡_};
 ghost use Prim.Native.Nat.{_+_, _*_, _^_, _%_, _<_};
 ghost use lib.ListN.{getD, set};
-ghost use Rattle.polyval.specs.Form.{num, Multiples};
+ghost use Rattle.polyval.specs.Form.{num, first, MultiplesTable};
 use crate::Element;
 use crate::field::add;
 use crate::field::times_x;
 
 // The entry of the low four bits of x.
-pub fn entry(t: &[u64; 32], x: u64) -> Element
-    ensures { λ r. ⌜ num r ≡ getD (now (t .entry)) (2 * (x % 16) + 1) 0 * 2 ^ 64 + getD (now (t .entry)) (2 * (x % 16)) 0 ⌝ }
+pub(crate) fn entry(multiples: &[u64; 32], x: u64) -> Element
+    ensures { λ r. ⌜ num r ≡ getD (now (multiples .entry)) (2 * (x % 16) + 1) 0 * 2 ^ 64 + getD (now (multiples .entry)) (2 * (x % 16)) 0 ⌝ }
 {
     let u = (x % 16) as usize;
     Element {
-        lo: t[2 * u],
-        hi: t[2 * u + 1],
+        lo: multiples[2 * u],
+        hi: multiples[2 * u + 1],
     }
 }
 
-fn put_entry(t: &mut [u64; 32], u: usize, e: Element)
+fn put_entry(multiples: &mut [u64; 32], u: usize, e: Element)
     requires { ⌜ u < 16 ⌝ }
-    ensures { λ _. ⌜ now (t .exit) ≡ set (set (now (t .entry)) (2 * u) (e .lo)) (2 * u + 1) (e .hi) ⌝ }
+    ensures { λ _. ⌜ now (multiples .exit) ≡ set (set (now (multiples .entry)) (2 * u) (e .lo)) (2 * u + 1) (e .hi) ⌝ }
 {
-    t[2 * u] = e.lo;
-    t[2 * u + 1] = e.hi;
+    multiples[2 * u] = e.lo;
+    multiples[2 * u + 1] = e.hi;
 }
 
+// The table of h.
 pub fn multiples(h: Element) -> [u64; 32]
-    ensures { λ r. ⌜ Multiples (num h) r ⌝ }
+    ensures { λ r. ⌜ (first r ≡ num h) × MultiplesTable r ⌝ }
 {
     let mut t = [0u64; 32];
     t[2] = h.lo;

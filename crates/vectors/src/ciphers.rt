@@ -38,7 +38,7 @@ pub fn expand(name: &[u8], a: [u8; 960]) {
     print(b"expand ");
     print(name);
     print_schedule(
-        aes_key::key_expansion(size, key(a, 0)),
+        aes_c::key_expansion(size, key(a, 0)),
         aes::cipher::rounds(size),
     );
     print(b"\n");
@@ -46,7 +46,7 @@ pub fn expand(name: &[u8], a: [u8; 960]) {
 
 // One block, in both directions: what was computed is then deciphered.
 fn cipher_one(name: &[u8], size: KeySize, w: &[u32; 60], plaintext: Block) {
-    let c = aes::cipher::encrypt_block(size, w, plaintext);
+    let c = aes_c::encrypt_block(size, w, plaintext);
     start(b"encrypt ", name);
     print_block(c);
     start(b"\ndecrypt ", name);
@@ -64,10 +64,10 @@ fn eight_times(block: [u8; 16]) -> [u8; 128] {
     bytes
 }
 
-// The block eight times, through the tables.
+// The block eight times.
 fn cipher_eight(name: &[u8], size: KeySize, w: &[u32; 60], plaintext: Block) {
     let mut bytes = eight_times(to_bytes(plaintext));
-    aes_blocks::encrypt_blocks(size, w, &mut bytes);
+    aes_c::encrypt_blocks(size, w, &mut bytes);
     start(b"encrypt8 ", name);
     print_blocks(&bytes);
     aes_blocks::decrypt_blocks(size, w, &mut bytes);
@@ -78,7 +78,7 @@ fn cipher_eight(name: &[u8], size: KeySize, w: &[u32; 60], plaintext: Block) {
 
 pub fn cipher(name: &[u8], a: [u8; 960]) {
     let size = key_size(a);
-    let w = aes_key::key_expansion(size, key(a, 16));
+    let w = aes_c::key_expansion(size, key(a, 16));
     let plaintext = block(a, 0);
     cipher_one(name, size, &w, plaintext);
     cipher_eight(name, size, &w, plaintext);

@@ -25,7 +25,7 @@ fn print_key(size: KeySize, key: Key) {
 fn unwrap(name: &[u8], a: [u8; 960], handle: Handle) {
     let size = key_size(a);
     start(b"unwrap ", name);
-    let Unwrapped::Key(found) = keywrap::siv::unwrap(size, block(a, 0), key(a, 16), handle) else {
+    let Unwrapped::Key(found) = keywrap_c::unwrap(size, block(a, 0), key(a, 16), handle) else {
         print(b"none\n");
         return;
     };

@@ -8,7 +8,6 @@ use polyval::dot::dot as dot_of;
 use polyval::field::add;
 use polyval::field::from_block;
 use polyval::field::to_block;
-use polyval::product::multiply;
 use polyval::table::multiples;
 
 fn print_element(e: Element) {
@@ -21,20 +20,15 @@ pub fn sum(name: &[u8], a: [u8; 960]) {
     print_element(add(from_block(block(a, 0)), from_block(block(a, 16))));
 }
 
-pub fn product(name: &[u8], a: [u8; 960]) {
-    start(b"product ", name);
-    print_element(multiply(from_block(block(a, 0)), from_block(block(a, 16))));
-}
-
 pub fn dot(name: &[u8], a: [u8; 960]) {
-    let t = multiples(from_block(block(a, 16)));
+    let table = multiples(from_block(block(a, 16)));
     start(b"dot ", name);
-    print_element(dot_of(&t, from_block(block(a, 0))));
+    print_element(dot_of(&table, from_block(block(a, 0))));
 }
 
 pub fn polyval(name: &[u8], a: [u8; 960]) {
     let end = 18 + a[1] as usize % 8 * 16;
     start(b"polyval ", name);
-    print_block(polyval::hash::polyval(block(a, 0), &a[18..end]));
+    print_block(keywrap_c::polyval(block(a, 0), &a[18..end]));
     print(b"\n");
 }

@@ -1,5 +1,4 @@
 use native.Mathlib.Omega.{arith}
-use Rattle.fips197.specs.Sbox.{invSbox}
 use Rattle.aes.proofs.Schedule.{rounds-few}
 use borrow.Author.Needs.{needs}
 use Rattle.aes_blocks.proofs.decrypt_blocks.Statement.{statement}
@@ -8,8 +7,8 @@ use Rattle.aes_blocks.proofs.decrypt_blocks.Tie as tie
 inverse-table-requires : tie.Need-inverse-table-requires
 inverse-table-requires c κs = search needs
 
-fill-table-requires : tie.Need-fill-table-requires
-fill-table-requires c κs = search needs
+inv-mix-table-requires : tie.Need-inv-mix-table-requires
+inv-mix-table-requires c κs = search needs
 
 rounds-requires : tie.Need-rounds-requires
 rounds-requires c κs = search needs
@@ -23,7 +22,7 @@ decrypt-blocks-with-requires : tie.Need-decrypt-blocks-with-requires
 decrypt-blocks-with-requires c κs =
     let rule = c .before .before .before .before .before .before .before .before .before .inverse-table .ensures in
     let e = c .before .before .before .before .before .rounds .ensures in
-    (c .before .before .before .before .before .before .fill-table .ensures invSbox rule, (rule, λ i h. c .before .before .before .before .inv-mixed-keys .ensures i (omega arith)))
+    (c .before .before .before .before .before .before .inv-mix-table .ensures, (rule, λ i h. c .before .before .before .before .inv-mixed-keys .ensures i (omega arith)))
 
 same-length : tie.Need-same-length
 same-length c = search needs
@@ -36,7 +35,7 @@ decrypt-blocks-spec =
     tie.close
     (tie.spec
     inverse-table-requires
-    fill-table-requires
+    inv-mix-table-requires
     rounds-requires
     inv-mixed-keys-requires
     decrypt-blocks-with-requires

@@ -17,11 +17,11 @@ use Rattle.aes_blocks.proofs.encrypt_blocks_with.Statement.{statement}
 use Rattle.aes_blocks.proofs.encrypt_blocks_with.Tie as tie
 
 abbrev Inv-loop : tie.InvT-loop
-Inv-loop t u w bytes₀ n count i₀ bytes i =
+Inv-loop mixed sbox w bytes₀ n count i₀ bytes i =
     (i ≤ count) × (length bytes ≡ length bytes₀) × (bytes ≡ mapBlocks (cipher (leWords 4 w) n) i bytes₀)
 
 abbrev μ-loop : tie.MeasureT-loop
-μ-loop t u w bytes₀ n count i₀ bytes i = count - i
+μ-loop mixed sbox w bytes₀ n count i₀ bytes i = count - i
 
 rounds-requires : tie.Need-rounds-requires Inv-loop μ-loop
 rounds-requires c κs = search needs

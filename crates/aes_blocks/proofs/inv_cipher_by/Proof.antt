@@ -1,4 +1,4 @@
--- As without a table: the rounds from i down, of the state, are all rounds of the first state; the measure is i.
+-- The rounds from i down, of the state, are all rounds of the first state; the measure is i.
 -- Assumes nothing.
 use mathlib.Core.Path.{_≡_, refl}
 use Prim.Native.Nat.{_-_, _<_}
@@ -12,10 +12,10 @@ use Rattle.aes_blocks.proofs.inv_cipher_by.Statement.{statement}
 use Rattle.aes_blocks.proofs.inv_cipher_by.Tie as tie
 
 abbrev Inv-loop : tie.InvT-loop
-Inv-loop m u w n s₀ i₀ s i = (i < n) × (invRounds (leWords 4 w) i (bytesOf s) ≡ invRounds (leWords 4 w) (n - 1) (bytesOf s₀))
+Inv-loop products inverse w n s₀ i₀ s i = (i < n) × (invRounds (leWords 4 w) i (bytesOf s) ≡ invRounds (leWords 4 w) (n - 1) (bytesOf s₀))
 
 abbrev μ-loop : tie.MeasureT-loop
-μ-loop m u w n s₀ i₀ s i = i
+μ-loop products inverse w n s₀ i₀ s i = i
 
 round-key-requires : tie.Need-round-key-requires Inv-loop μ-loop
 round-key-requires c κs = search needs

@@ -35,11 +35,11 @@ element-copy-out-inv-mix-column c = search needs
 inv-mix-column-requires : tie.Need-inv-mix-column-requires Inv-loop μ-loop
 inv-mix-column-requires c κs = search needs
 
-mul-v : tie.Need-mul-v Inv-loop μ-loop
-mul-v c = search needs
+mul-dw : tie.Need-mul-dw Inv-loop μ-loop
+mul-dw c = search needs
 
-array-write-v : tie.Need-array-write-v Inv-loop μ-loop
-array-write-v c = search needs
+array-write-dw : tie.Need-array-write-dw Inv-loop μ-loop
+array-write-dw c = search needs
 
 add-i : tie.Need-add-i Inv-loop μ-loop
 add-i c = search needs
@@ -51,7 +51,7 @@ loop-again : tie.Need-loop-again Inv-loop μ-loop
 loop-again c =
     let at-loop = c .before .before .before in
     let w = at-loop .before .args .w .now in
-    let v = at-loop .loop .v in
+    let v = at-loop .loop .dw in
     let i = at-loop .loop .i in
     let x = c .inv-mix-column .result in (
       omega arith,
@@ -74,8 +74,8 @@ inv-mixed-keys-spec =
     mul-inv-mix-column
     element-copy-out-inv-mix-column
     inv-mix-column-requires
-    mul-v
-    array-write-v
+    mul-dw
+    array-write-dw
     add-i
     loop-less
     loop-again

@@ -1,4 +1,4 @@
--- As without tables: the state is what the rounds before i make; the measure is the rounds left.
+-- The state is what the rounds before i make; the measure is the rounds left.
 -- Assumes nothing.
 use mathlib.Core.Path.{_≡_, refl}
 use Prim.Native.Nat.{_-_, _≤_}
@@ -12,10 +12,10 @@ use Rattle.aes_blocks.proofs.table_cipher.Statement.{statement}
 use Rattle.aes_blocks.proofs.table_cipher.Tie as tie
 
 abbrev Inv-loop : tie.InvT-loop
-Inv-loop t u w n s₀ i₀ s i = (1 ≤ i) × (i ≤ n) × (bytesOf s ≡ rounds (leWords 4 w) (i - 1) (bytesOf s₀))
+Inv-loop mixed sbox w n s₀ i₀ s i = (1 ≤ i) × (i ≤ n) × (bytesOf s ≡ rounds (leWords 4 w) (i - 1) (bytesOf s₀))
 
 abbrev μ-loop : tie.MeasureT-loop
-μ-loop t u w n s₀ i₀ s i = n - i
+μ-loop mixed sbox w n s₀ i₀ s i = n - i
 
 round-key-requires : tie.Need-round-key-requires Inv-loop μ-loop
 round-key-requires c κs = search needs

@@ -1,4 +1,4 @@
--- As without tables; a round is that of the equivalent inverse cipher.
+-- The rounds from i down, of the state, are all rounds of the first state; a round is that of the equivalent inverse cipher. The measure is i.
 -- Assumes nothing.
 use mathlib.Core.Path.{_≡_, refl}
 use Prim.Native.Nat.{_-_, _<_}
@@ -13,10 +13,10 @@ use Rattle.aes_blocks.proofs.table_inv_cipher.Statement.{statement}
 use Rattle.aes_blocks.proofs.table_inv_cipher.Tie as tie
 
 abbrev Inv-loop : tie.InvT-loop
-Inv-loop t u w v n s₀ i₀ s i = (i < n) × (invRounds (leWords 4 w) i (bytesOf s) ≡ invRounds (leWords 4 w) (n - 1) (bytesOf s₀))
+Inv-loop mixed inverse w dw n s₀ i₀ s i = (i < n) × (invRounds (leWords 4 w) i (bytesOf s) ≡ invRounds (leWords 4 w) (n - 1) (bytesOf s₀))
 
 abbrev μ-loop : tie.MeasureT-loop
-μ-loop t u w v n s₀ i₀ s i = i
+μ-loop mixed inverse w dw n s₀ i₀ s i = i
 
 round-key-requires : tie.Need-round-key-requires Inv-loop μ-loop
 round-key-requires c κs = search needs
@@ -49,7 +49,7 @@ loop-again c =
     let s = bytesOf (at-loop .loop .s) in (
       omega arith,
       inv-rounds-more (leWords 4 (st .args .w .now)) (at-loop .loop .i) s (omega arith) (at-loop .loop .inv .1) refl
-          (equivalent-round (st .args .w .now) (st .args .v .now) (st .args .n) (at-loop .loop .i) (at-loop .loop .inv .0) (st .pre .1 .1 .0) s (c .before .round-key2 .ensures)
+          (equivalent-round (st .args .w .now) (st .args .dw .now) (st .args .n) (at-loop .loop .i) (at-loop .loop .inv .0) (st .pre .1 .1 .0) s (c .before .round-key2 .ensures)
           (c .table-inv-round .ensures)),
     )
 

@@ -1,10 +1,9 @@
-use mathlib.Core.Path.{sym, ap, ap₂, _∙_}
+use mathlib.Core.Path.{ap₂, _∙_}
 use mathlib.Core.List.{List}
 use Prim.Native.Nat.{ℕ, _*_}
 use lib.ListN.{take}
-use Rattle.fips197.specs.KeyExpansion.{keyExpansion}
 use Rattle.fips197.specs.Sizes.{nk}
-use Rattle.aes.specs.Form.{schedule}
+use Rattle.aes.specs.Form.{storedSchedule}
 use Rattle.fips197.specs.declared.KeySize.{KeySize}
 use borrow.Author.Needs.{needs}
 use Rattle.aes_c.proofs.aes_key_expansion.Statement.{statement}
@@ -21,10 +20,8 @@ key-expansion-requires c κs = search needs
 
 returns : tie.Need-returns
 returns c =
-    let r = c .key-expansion .result in
-    let size = c .before .before .key-size in
-    ap (λ (s : KeySize). schedule s r) (sym (size .ensures)) ∙ c .key-expansion .ensures
-    ∙ ap₂ (λ (s : KeySize) (k : List ℕ). keyExpansion (nk s) (take (4 * nk s) k)) (size .ensures) (c .before .key-from-bytes .ensures)
+    c .key-expansion .ensures
+    ∙ ap₂ (λ (s : KeySize) (k : List ℕ). storedSchedule s (take (4 * nk s) k)) (c .before .before .key-size .ensures) (c .before .key-from-bytes .ensures)
 
 pub aes-key-expansion-spec : {M : Type 1} → statement M
 aes-key-expansion-spec =

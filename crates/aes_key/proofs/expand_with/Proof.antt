@@ -1,25 +1,27 @@
 -- The words below i are the schedule so far; the measure is the words left.
 -- Assumes nothing.
-use mathlib.Core.Path.{_≡_, sym, ap, ap₂, _∙_}
+use mathlib.Core.Path.{_≡_, refl, sym, ap, _∙_}
 use Prim.Native.Nat.{ℕ, _+_, _-_, _*_, _≤_}
 use native.Mathlib.Omega.{arith}
 use borrow.Author.Needs.{needs}
-use lib.ListN.{length, take, length-set}
-use mathlib.Core.List.{List, _++_}
+use lib.ListN.{length, take, drop, length-set}
+use lib.Seq.{drop-set-lt}
+use mathlib.Core.List.{_++_}
 use Rattle.bits.specs.Words.{leWords}
-use Rattle.fips197.specs.KeyExpansion.{expanded, keyExpansion}
+use Rattle.fips197.specs.KeyExpansion.{expanded}
 use Rattle.fips197.specs.Sizes.{nk}
 use Rattle.aes.specs.Form.{bytesOf}
-use Rattle.aes_key.proofs.Expansion.{expanded-none, expands, key-words-few, key-front}
+use Rattle.aes_key.proofs.Expansion.{expanded-none, expands, key-words-few, stored}
 use Rattle.aes_key.proofs.expand_with.Statement.{statement}
 use Rattle.aes_key.proofs.expand_with.Tie as tie
 
 abbrev Inv-loop : tie.InvT-loop
-Inv-loop t size w₀ i₀ n w i =
+Inv-loop sbox size w₀ i₀ n w i =
     (nk size ≤ i) × (i ≤ n) × (length w ≡ 60) × (leWords 4 (take i w) ≡ expanded (nk size) (leWords 4 (take (nk size) w₀)) (i - nk size))
+    × (drop n w ≡ drop n w₀)
 
 abbrev μ-loop : tie.MeasureT-loop
-μ-loop t size w₀ i₀ n w i = n - i
+μ-loop sbox size w₀ i₀ n w i = n - i
 
 key-front-requires : tie.Need-key-front-requires Inv-loop μ-loop
 key-front-requires c κs = search needs
@@ -47,6 +49,7 @@ loop-holds c =
       omega arith,
       search needs,
       ap (λ (n : ℕ). leWords 4 (take n w)) e ∙ expanded-none (nk size) (leWords 4 (take (nk size) w)) ∙ ap (λ (n : ℕ). expanded (nk size) (leWords 4 (take (nk size) w)) (n - nk size)) (sym e),
+      refl,
     )
 
 next-word-requires : tie.Need-next-word-requires Inv-loop μ-loop
@@ -88,21 +91,22 @@ loop-again c =
       length-set (at-loop .loop .w) (at-loop .loop .i) (c .next-word .result) ∙ l,
       expands (nk size) (at-loop .loop .i) (leWords 4 (take (nk size) (c .before .before .before .before .before .before .key-front .result))) (at-loop .loop .w) (c .next-word .result)
           (omega arith) (at-loop .loop .inv .0) (omega arith) (at-loop .loop .inv .3) (c .next-word .ensures),
+      drop-set-lt (4 * (c .before .before .before .before .key-words2 .result + 7)) (at-loop .loop .w) (at-loop .loop .i) (c .next-word .result) (omega arith) ∙ at-loop .loop .inv .4,
     )
 
 returns : tie.Need-returns Inv-loop μ-loop
-unfolding keyExpansion
 returns c =
     let st = c .before .before .before .before .before in
     let size = st .args .size in
     let few = key-words-few size in
     let f = c .before .before .key-words2 .ensures in
     let at-loop = c .before in
-    let e : 4 * (nk size + 7) ≡ at-loop .loop .i = omega arith in
-    ap (λ (n : ℕ). leWords 4 (take n (at-loop .loop .w))) e
-    ∙ at-loop .loop .inv .3
-    ∙ ap₂ (λ (k : List ℕ) (n : ℕ). expanded (nk size) k (n - nk size))
-    (key-front (nk size) (c .before .before .before .before .key-front .result) (bytesOf (st .args .key .low) ++ bytesOf (st .args .key .high)) (few .1) (c .before .before .before .before .key-front .ensures)) (sym e)
+    let front = c .before .before .before .before .key-front in
+    let i = at-loop .loop .i in
+    let w = at-loop .loop .w in
+    let end : i ≡ 4 * (c .before .before .key-words2 .result + 7) = omega arith in
+    stored size i w (front .result) (bytesOf (st .args .key .low) ++ bytesOf (st .args .key .high)) (omega arith) (at-loop .loop .inv .3)
+    (ap (λ (n : ℕ). drop n w) end ∙ at-loop .loop .inv .4 ∙ ap (λ (n : ℕ). drop n (front .result)) (sym end)) (front .ensures .0) (front .ensures .1)
 
 pub expand-with-spec : {M : Type 1} → statement M
 expand-with-spec =

@@ -1,11 +1,13 @@
-use mathlib.Core.Path.{_∙_, sym, ap}
+use mathlib.Core.Path.{_≡_, _∙_, sym, ap}
 use mathlib.Core.List.{List}
 use Prim.Native.Nat.{ℕ}
 use Rattle.fips197.specs.Aes.{encrypt, decrypt}
 use Rattle.fips197.specs.Cipher.{cipher}
 use Rattle.fips197.specs.InvCipher.{invCipher}
-use Rattle.fips197.specs.Sizes.{nr}
-use Rattle.aes.specs.Form.{bytesOf, keyBytes}
+use Rattle.fips197.specs.Sizes.{nk, nr}
+use Rattle.aes.specs.Form.{bytesOf, keyBytes, schedule}
+use Rattle.aes.proofs.Schedule.{schedule-stored}
+use Rattle.fips197.specs.KeyExpansion.{keyExpansion}
 use Rattle.fips197.specs.declared.Direction.{Direction}
 use Rattle.model.specs.Instructions.{aes}
 use borrow.Author.Needs.{needs}
@@ -27,12 +29,15 @@ enum-told-2 c = search needs
 decrypt-block-requires : tie.Need-decrypt-block-requires
 decrypt-block-requires c κs = search needs
 
+scheduled : (c : tie.After-expand-with) → schedule (c .before .args .size) (c .expand-with .result) ≡ keyExpansion (nk (c .before .args .size)) (keyBytes (c .before .args .size) (c .before .args .key))
+scheduled c = schedule-stored (c .before .args .size) (c .before .args .key) (c .expand-with .result) (c .expand-with .ensures)
+
 returns : tie.Need-returns
 unfolding encrypt
 returns c =
     let a = c .before .before .before .before .before .args in
     c .encrypt-block-with .ensures
-    ∙ ap (λ (w : List ℕ). cipher w (nr (a .size)) (bytesOf (a .b))) (c .before .before .before .before .expand-with .ensures)
+    ∙ ap (λ (w : List ℕ). cipher w (nr (a .size)) (bytesOf (a .b))) (scheduled (c .before .before .before .before))
     ∙ ap (λ (d : Direction). aes d (a .size) (keyBytes (a .size) (a .key)) (bytesOf (a .b))) (sym (c .before .before .enum-told .given .1))
 
 returns-2 : tie.Need-returns-2
@@ -40,7 +45,7 @@ unfolding decrypt
 returns-2 c =
     let a = c .before .before .before .before .before .args in
     c .decrypt-block .ensures
-    ∙ ap (λ (w : List ℕ). invCipher w (nr (a .size)) (bytesOf (a .b))) (c .before .before .before .before .expand-with .ensures)
+    ∙ ap (λ (w : List ℕ). invCipher w (nr (a .size)) (bytesOf (a .b))) (scheduled (c .before .before .before .before))
     ∙ ap (λ (d : Direction). aes d (a .size) (keyBytes (a .size) (a .key)) (bytesOf (a .b))) (sym (c .before .before .enum-told2 .given .1))
 
 pub cipher-block-spec : {M : Type 1} → statement M

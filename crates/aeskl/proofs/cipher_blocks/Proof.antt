@@ -1,4 +1,4 @@
-use mathlib.Core.Path.{_∙_, sym, ap}
+use mathlib.Core.Path.{_≡_, _∙_, sym, ap}
 use mathlib.Core.List.{List}
 use Prim.Native.Nat.{ℕ, _/_}
 use lib.ListN.{length}
@@ -6,8 +6,10 @@ use Rattle.bits.specs.Blocks.{mapBlocks}
 use Rattle.fips197.specs.Aes.{encrypt, decrypt}
 use Rattle.fips197.specs.Cipher.{cipher}
 use Rattle.fips197.specs.InvCipher.{invCipher}
-use Rattle.fips197.specs.Sizes.{nr}
-use Rattle.aes.specs.Form.{keyBytes}
+use Rattle.fips197.specs.Sizes.{nk, nr}
+use Rattle.aes.specs.Form.{keyBytes, schedule}
+use Rattle.aes.proofs.Schedule.{schedule-stored}
+use Rattle.fips197.specs.KeyExpansion.{keyExpansion}
 use Rattle.fips197.specs.declared.Direction.{Direction}
 use Rattle.model.specs.Instructions.{aes}
 use borrow.Author.Needs.{needs}
@@ -32,13 +34,16 @@ decrypt-blocks-requires c κs = search needs
 same-length : tie.Need-same-length
 same-length c = search needs
 
+scheduled : (c : tie.After-expand-with) → schedule (c .before .before .args .size) (c .expand-with .result) ≡ keyExpansion (nk (c .before .before .args .size)) (keyBytes (c .before .before .args .size) (c .before .before .args .key))
+scheduled c = schedule-stored (c .before .before .args .size) (c .before .before .args .key) (c .expand-with .result) (c .expand-with .ensures)
+
 returns : tie.Need-returns
 unfolding encrypt
 returns c =
     let a = c .before .before .before .before .before .before .before .before .before .args in
     let s = a .bytes .now in
     c .before .before .encrypt-blocks-with .ensures
-    ∙ ap (λ (w : List ℕ). mapBlocks (cipher w (nr (a .size))) (length s / 16) s) (c .before .before .before .before .before .before .before .expand-with .ensures)
+    ∙ ap (λ (w : List ℕ). mapBlocks (cipher w (nr (a .size))) (length s / 16) s) (scheduled (c .before .before .before .before .before .before .before))
     ∙ ap (λ (d : Direction). mapBlocks (aes d (a .size) (keyBytes (a .size) (a .key))) (length s / 16) s) (sym (c .before .before .before .before .before .enum-told .given .1))
 
 same-length-2 : tie.Need-same-length-2
@@ -50,7 +55,7 @@ returns-2 c =
     let a = c .before .before .before .before .before .before .before .before .before .args in
     let s = a .bytes .now in
     c .before .before .decrypt-blocks .ensures
-    ∙ ap (λ (w : List ℕ). mapBlocks (invCipher w (nr (a .size))) (length s / 16) s) (c .before .before .before .before .before .before .before .expand-with .ensures)
+    ∙ ap (λ (w : List ℕ). mapBlocks (invCipher w (nr (a .size))) (length s / 16) s) (scheduled (c .before .before .before .before .before .before .before))
     ∙ ap (λ (d : Direction). mapBlocks (aes d (a .size) (keyBytes (a .size) (a .key))) (length s / 16) s) (sym (c .before .before .before .before .before .enum-told2 .given .1))
 
 pub cipher-blocks-spec : {M : Type 1} → statement M

@@ -3,7 +3,6 @@ use mathlib.Core.List.{List, [], _∷_}
 use mathlib.Core.Option.{Option}
 use Prim.Native.Nat.{ℕ}
 use lib.ListN.{length}
-use Rattle.fips197.specs.Sbox.{sbox}
 use Rattle.aes.specs.Form.{keyBytes}
 use Rattle.keywrap.specs.Form.{opened, paddedKey}
 use Rattle.model.specs.Cpu.{cpl, withXmm, withZf}
@@ -34,13 +33,13 @@ sized c = search needs
 sbox-table-requires : tie.Need-sbox-table-requires
 sbox-table-requires c κs = search needs
 
-fill-table-requires : tie.Need-fill-table-requires
-fill-table-requires c κs = search needs
+mix-table-requires : tie.Need-mix-table-requires
+mix-table-requires c κs = search needs
 
 unwrapped-by-requires : tie.Need-unwrapped-by-requires
 unwrapped-by-requires c κs =
     let rule = c .before .before .before .before .before .sbox-table .ensures in
-    (c .before .before .fill-table .ensures sbox rule, rule)
+    (c .before .before .mix-table .ensures, rule)
 
 enum-known-key : tie.Need-enum-known-key
 enum-known-key c = search needs
@@ -70,7 +69,7 @@ xmm-requires c κs = sized (c .before .before .before .before .before .before .b
 cipher-block-requires : tie.Need-cipher-block-requires
 cipher-block-requires c κs =
     let rule = c .before .before .before .before .before .before .before .before .before .before .before .before .before .sbox-table .ensures in
-    (c .before .before .before .before .before .before .before .before .before .before .fill-table .ensures sbox rule, rule)
+    (c .before .before .before .before .before .before .before .before .before .before .mix-table .ensures, rule)
 
 done-single-requires : tie.Need-done-single-requires
 done-single-requires c κs = search needs
@@ -96,7 +95,7 @@ use-single-spec =
     failed-requires
     returns
     sbox-table-requires
-    fill-table-requires
+    mix-table-requires
     unwrapped-by-requires
     enum-known-key
     enum-told

@@ -2,7 +2,6 @@ use mathlib.Core.Path.{_∙_, sym, ap}
 use mathlib.Core.List.{List, [], _∷_}
 use mathlib.Core.Option.{Option}
 use Prim.Native.Nat.{ℕ}
-use Rattle.fips197.specs.Sbox.{sbox}
 use Rattle.keywrap.specs.Form.{opened, paddedKey}
 use Rattle.model.specs.Cpu.{cpl}
 use Rattle.model.specs.Instructions.{ciphered}
@@ -29,13 +28,13 @@ returns c =
 sbox-table-requires : tie.Need-sbox-table-requires
 sbox-table-requires c κs = search needs
 
-fill-table-requires : tie.Need-fill-table-requires
-fill-table-requires c κs = search needs
+mix-table-requires : tie.Need-mix-table-requires
+mix-table-requires c κs = search needs
 
 unwrapped-by-requires : tie.Need-unwrapped-by-requires
 unwrapped-by-requires c κs =
     let rule = c .before .before .before .before .before .sbox-table .ensures in
-    (c .before .before .fill-table .ensures sbox rule, rule)
+    (c .before .before .mix-table .ensures, rule)
 
 enum-known-key : tie.Need-enum-known-key
 enum-known-key c = search needs
@@ -59,7 +58,7 @@ returns-2 c =
 done-wide-requires : tie.Need-done-wide-requires
 done-wide-requires c κs =
     let rule = c .before .before .before .before .before .before .before .before .before .before .before .sbox-table .ensures in
-    (c .before .before .before .before .before .before .before .before .fill-table .ensures sbox rule, rule)
+    (c .before .before .before .before .before .before .before .before .mix-table .ensures, rule)
 
 returns-3 : tie.Need-returns-3
 returns-3 c =
@@ -80,7 +79,7 @@ use-wide-spec =
     failed-requires
     returns
     sbox-table-requires
-    fill-table-requires
+    mix-table-requires
     unwrapped-by-requires
     enum-known-key
     enum-told

@@ -9,7 +9,7 @@ use Rattle.fips197.specs.declared.KeySize.the-variants.{Aes256}
 use Rattle.handle.specs.Wrap.{unwrapKey}
 use Rattle.keywrap.specs.Form.{paddedKey}
 use Rattle.keywrap_c.specs.Answer as answer
-use Rattle.keywrap_c.proofs.Forms.{first-bytes}
+use Rattle.keywrap.proofs.Sizes.{first-bytes}
 use borrow.Author.Needs.{needs}
 use Rattle.keywrap_c.proofs.keywrap_unwrap.Statement.{statement}
 use Rattle.keywrap_c.proofs.keywrap_unwrap.Tie as tie

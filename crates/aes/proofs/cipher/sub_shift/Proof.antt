@@ -1,6 +1,8 @@
+use mathlib.Core.Path.{_∙_}
 use Rattle.bits.proofs.Lists.{four}
 use Rattle.fips197.specs.Sbox.{sbox}
 use Rattle.fips197.specs.Cipher.{shiftRows, subBytes}
+use Rattle.aes.proofs.Words.{through-table}
 use borrow.Author.Needs.{needs}
 use Rattle.aes.proofs.cipher.sub_shift.Statement.{statement}
 use Rattle.aes.proofs.cipher.sub_shift.Tie as tie
@@ -20,8 +22,10 @@ sub-diagonal-requires-4 c κs = search needs
 returns : tie.Need-returns
 unfolding shiftRows subBytes
 returns c =
-    let h = c .before .before .before .before .pre in
-    four (c .before .before .before .sub-diagonal .ensures sbox h) (c .before .before .sub-diagonal2 .ensures sbox h) (c .before .sub-diagonal3 .ensures sbox h) (c .sub-diagonal4 .ensures sbox h)
+    let st = c .before .before .before .before in
+    let via = through-table sbox (st .args .sbox .now) (st .pre) in
+    four (c .before .before .before .sub-diagonal .ensures ∙ via _ _ _ _) (c .before .before .sub-diagonal2 .ensures ∙ via _ _ _ _)
+    (c .before .sub-diagonal3 .ensures ∙ via _ _ _ _) (c .sub-diagonal4 .ensures ∙ via _ _ _ _)
 
 pub sub-shift-spec : {M : Type 1} → statement M
 sub-shift-spec =

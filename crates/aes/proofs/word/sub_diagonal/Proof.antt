@@ -1,6 +1,5 @@
 use mathlib.Core.Path.{ap, _∙_}
 use Prim.Native.Nat.{ℕ}
-use native.Mathlib.Omega.{arith}
 use lib.ListN.{getD}
 use Rattle.bits.proofs.Lists.{list4}
 use borrow.Author.Needs.{needs}
@@ -35,15 +34,15 @@ pack-requires : tie.Need-pack-requires
 pack-requires c κs = search needs
 
 returns : tie.Need-returns
-returns c = λ f h.
+returns c =
     let st = c .before .before .before .before .before .before .before .before .before in
-    let t = st .args .t .now in
+    let t = st .args .table .now in
     c .pack .ensures
     ∙ list4
-    (c .before .before .before .before .before .before .before .entry .ensures ∙ ap (λ (x : ℕ). getD t x 0) (c .before .before .before .before .before .before .before .before .byte0 .ensures) ∙ h _ (omega arith))
-    (c .before .before .before .before .before .entry2 .ensures ∙ ap (λ (x : ℕ). getD t x 0) (c .before .before .before .before .before .before .byte1 .ensures) ∙ h _ (omega arith))
-    (c .before .before .before .entry3 .ensures ∙ ap (λ (x : ℕ). getD t x 0) (c .before .before .before .before .byte2 .ensures) ∙ h _ (omega arith))
-    (c .before .entry4 .ensures ∙ ap (λ (x : ℕ). getD t x 0) (c .before .before .byte3 .ensures) ∙ h _ (omega arith))
+    (c .before .before .before .before .before .before .before .entry .ensures ∙ ap (λ (x : ℕ). getD t x 0) (c .before .before .before .before .before .before .before .before .byte0 .ensures))
+    (c .before .before .before .before .before .entry2 .ensures ∙ ap (λ (x : ℕ). getD t x 0) (c .before .before .before .before .before .before .byte1 .ensures))
+    (c .before .before .before .entry3 .ensures ∙ ap (λ (x : ℕ). getD t x 0) (c .before .before .before .before .byte2 .ensures))
+    (c .before .entry4 .ensures ∙ ap (λ (x : ℕ). getD t x 0) (c .before .before .byte3 .ensures))
 
 pub sub-diagonal-spec : {M : Type 1} → statement M
 sub-diagonal-spec =

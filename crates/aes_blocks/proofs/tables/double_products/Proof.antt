@@ -37,11 +37,11 @@ mul-y c = search needs
 element-copy-out-y : tie.Need-element-copy-out-y Inv-loop μ-loop
 element-copy-out-y c = search needs
 
-mul-m : tie.Need-mul-m Inv-loop μ-loop
-mul-m c = search needs
+mul-products : tie.Need-mul-products Inv-loop μ-loop
+mul-products c = search needs
 
-element-write-m : tie.Need-element-write-m Inv-loop μ-loop
-element-write-m c = search needs
+element-write-products : tie.Need-element-write-products Inv-loop μ-loop
+element-write-products c = search needs
 
 add-i : tie.Need-add-i Inv-loop μ-loop
 add-i c = search needs
@@ -53,7 +53,7 @@ loop-again : tie.Need-loop-again Inv-loop μ-loop
 loop-again c =
     let at-loop = c .before .before in
     let st = at-loop .before in
-    let m = at-loop .loop .m in
+    let m = at-loop .loop .products in
     let i = at-loop .loop .i in
     let k = st .args .k in
     let x = st .args .x in
@@ -81,8 +81,8 @@ double-products-spec =
     sub-y
     mul-y
     element-copy-out-y
-    mul-m
-    element-write-m
+    mul-products
+    element-write-products
     add-i
     loop-less
     loop-again

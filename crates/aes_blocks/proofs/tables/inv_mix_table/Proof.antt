@@ -14,11 +14,11 @@ use Rattle.aes_blocks.proofs.tables.inv_mix_table.Statement.{statement}
 use Rattle.aes_blocks.proofs.tables.inv_mix_table.Tie as tie
 
 abbrev Inv-loop : tie.InvT-loop
-Inv-loop t r₀ m i₀ r i =
-    (i ≤ 256) × (length r ≡ 256) × ((k : ℕ) → k < i → leBytes 4 (getD r k 0) ≡ part invMixRow (getD t k 0) 0)
+Inv-loop inverse r₀ m i₀ r i =
+    (i ≤ 256) × (length r ≡ 256) × ((k : ℕ) → k < i → leBytes 4 (getD r k 0) ≡ part invMixRow (getD inverse k 0) 0)
 
 abbrev μ-loop : tie.MeasureT-loop
-μ-loop t r₀ m i₀ r i = 256 - i
+μ-loop inverse r₀ m i₀ r i = 256 - i
 
 inv-products-requires : tie.Need-inv-products-requires Inv-loop μ-loop
 inv-products-requires c κs = (search needs, refl)
@@ -32,11 +32,11 @@ element-copy-out-product c = search needs
 product-requires : tie.Need-product-requires Inv-loop μ-loop
 product-requires c κs = search needs
 
-mul-r : tie.Need-mul-r Inv-loop μ-loop
-mul-r c = search needs
+mul-mixed : tie.Need-mul-mixed Inv-loop μ-loop
+mul-mixed c = search needs
 
-element-write-r : tie.Need-element-write-r Inv-loop μ-loop
-element-write-r c = search needs
+element-write-mixed : tie.Need-element-write-mixed Inv-loop μ-loop
+element-write-mixed c = search needs
 
 add-i : tie.Need-add-i Inv-loop μ-loop
 add-i c = search needs
@@ -47,8 +47,8 @@ loop-less c = search needs
 loop-again : tie.Need-loop-again Inv-loop μ-loop
 loop-again c =
     let at-loop = c .before .before .before .before in
-    let t = at-loop .before .before .before .args .t .now in
-    let r = at-loop .loop .r in
+    let t = at-loop .before .before .before .args .inverse .now in
+    let r = at-loop .loop .mixed in
     let i = at-loop .loop .i in
     let x = c .product .result in (
       omega arith,
@@ -58,8 +58,8 @@ loop-again c =
     )
 
 returns : tie.Need-returns Inv-loop μ-loop
-returns c =
-    λ f rule k h. c .before .loop .inv .2 k (omega arith) ∙ ap (λ (s : ℕ). part invMixRow s 0) (rule k h)
+returns c k h =
+    c .before .loop .inv .2 k (omega arith) ∙ ap (λ (s : ℕ). part invMixRow s 0) (c .before .before .before .before .pre .0 k h)
 
 pub inv-mix-table-spec : {M : Type 1} → statement M
 inv-mix-table-spec =
@@ -71,8 +71,8 @@ inv-mix-table-spec =
     loop-holds
     element-copy-out-product
     product-requires
-    mul-r
-    element-write-r
+    mul-mixed
+    element-write-mixed
     add-i
     loop-less
     loop-again

@@ -57,7 +57,7 @@ double-products-requires-8 c κs = search needs
 returns : tie.Need-returns
 returns c =
     let st = c .before .before .before .before .before .before .before .before .before .before .before .before .before .before .before .before .before .before .before .before .before .before .before .before in
-    let p0 = no-products invMixRow (st .args .m .now) (st .pre .1) in
+    let p0 = no-products invMixRow (st .args .products .now) (st .pre .1) in
     let p1 = c .before .before .before .before .before .before .before .before .before .before .before .before .before .before .before .before .before .before .before .before .before .double-products .ensures .1 invMixRow 0 refl (c .before .before .before .before .before .before .before .before .before .before .before .before .before .before .before .before .before .before .before .before .before .before .inv-mix-column .ensures ∙ first-part invMixRow 1 (lit< tt)) p0 in
     let p2 = c .before .before .before .before .before .before .before .before .before .before .before .before .before .before .before .before .before .before .double-products2 .ensures .1 invMixRow 1 refl (c .before .before .before .before .before .before .before .before .before .before .before .before .before .before .before .before .before .before .before .inv-mix-column2 .ensures ∙ first-part invMixRow 2 (lit< tt)) p1 in
     let p3 = c .before .before .before .before .before .before .before .before .before .before .before .before .before .before .before .double-products3 .ensures .1 invMixRow 2 refl (c .before .before .before .before .before .before .before .before .before .before .before .before .before .before .before .before .inv-mix-column3 .ensures ∙ first-part invMixRow 4 (lit< tt)) p2 in

@@ -16,11 +16,11 @@ use Rattle.aes_blocks.proofs.tables.mix_table.Statement.{statement}
 use Rattle.aes_blocks.proofs.tables.mix_table.Tie as tie
 
 abbrev Inv-loop : tie.InvT-loop
-Inv-loop t r₀ i₀ r i =
-    (i ≤ 256) × (length r ≡ 256) × ((k : ℕ) → k < i → leBytes 4 (getD r k 0) ≡ part mixRow (getD t k 0) 0)
+Inv-loop sbox r₀ i₀ r i =
+    (i ≤ 256) × (length r ≡ 256) × ((k : ℕ) → k < i → leBytes 4 (getD r k 0) ≡ part mixRow (getD sbox k 0) 0)
 
 abbrev μ-loop : tie.MeasureT-loop
-μ-loop t r₀ i₀ r i = 256 - i
+μ-loop sbox r₀ i₀ r i = 256 - i
 
 loop-holds : tie.Need-loop-holds Inv-loop μ-loop
 loop-holds c = (search needs, search needs, below-none _)
@@ -34,11 +34,11 @@ wide-requires c κs = search needs
 mix-column-requires : tie.Need-mix-column-requires Inv-loop μ-loop
 mix-column-requires c κs = search needs
 
-mul-r : tie.Need-mul-r Inv-loop μ-loop
-mul-r c = search needs
+mul-mixed : tie.Need-mul-mixed Inv-loop μ-loop
+mul-mixed c = search needs
 
-element-write-r : tie.Need-element-write-r Inv-loop μ-loop
-element-write-r c = search needs
+element-write-mixed : tie.Need-element-write-mixed Inv-loop μ-loop
+element-write-mixed c = search needs
 
 add-i : tie.Need-add-i Inv-loop μ-loop
 add-i c = search needs
@@ -49,8 +49,8 @@ loop-less c = search needs
 loop-again : tie.Need-loop-again Inv-loop μ-loop
 loop-again c =
     let at-loop = c .before .before .before .before in
-    let t = at-loop .before .args .t .now in
-    let r = at-loop .loop .r in
+    let t = at-loop .before .args .sbox .now in
+    let r = at-loop .loop .mixed in
     let i = at-loop .loop .i in
     let x = c .mix-column .result in
     let e = c .before .wide .ensures in (
@@ -61,8 +61,8 @@ loop-again c =
     )
 
 returns : tie.Need-returns Inv-loop μ-loop
-returns c =
-    λ f rule k h. c .before .loop .inv .2 k (omega arith) ∙ ap (λ (s : ℕ). part mixRow s 0) (rule k h)
+returns c k h =
+    c .before .loop .inv .2 k (omega arith) ∙ ap (λ (s : ℕ). part mixRow s 0) (c .before .before .pre .0 k h)
 
 pub mix-table-spec : {M : Type 1} → statement M
 mix-table-spec =
@@ -74,8 +74,8 @@ mix-table-spec =
     element-copy-out-wide
     wide-requires
     mix-column-requires
-    mul-r
-    element-write-r
+    mul-mixed
+    element-write-mixed
     add-i
     loop-less
     loop-again

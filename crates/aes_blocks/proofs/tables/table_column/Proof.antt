@@ -34,7 +34,7 @@ rot-word-requires-3 c κs = search needs
 returns : tie.Need-returns
 returns c = λ q f rule.
     let st = c .before .before .before .before .before .before .before .before in
-    let part = entry-part q f (st .args .t .now) rule in
+    let part = entry-part q f (st .args .table .now) rule in
     let a = st .args .a in
     let b = st .args .b in
     let e = st .args .c in

@@ -9,7 +9,7 @@ use Rattle.aes.specs.Form.{bytesOf, keyBytes}
 use Rattle.fips197.specs.declared.KeySize.{KeySize}
 use Rattle.rfc8452.specs.Field.{add, dot}
 use Rattle.rfc8452.specs.Polyval.{polyvalFrom}
-use Rattle.polyval.specs.Form.{num}
+use Rattle.polyval.specs.Form.{num, first}
 use borrow.Author.Needs.{needs}
 use Rattle.keywrap.proofs.hash.hash_key.Statement.{statement}
 use Rattle.keywrap.proofs.hash.hash_key.Tie as tie
@@ -27,17 +27,19 @@ update-requires-2 : tie.Need-update-requires-2
 update-requires-2 c κs = search needs
 
 returns : tie.Need-returns
-returns c h l rule =
+returns c =
     let st = c .before .before .before in
-    c .before .before .update .ensures h l rule
+    let h = first (st .args .multiples .now) in
+    c .before .before .update .ensures
     ∙ ap (λ (z : KeySize). polyvalFrom h (num (st .args .s)) (map leValue (blocks (length (keyBytes z (st .args .key)) / 16) (keyBytes z (st .args .key)))))
     (sym (c .enum-told .given .1))
 
 returns-2 : tie.Need-returns-2
-returns-2 c h l rule =
+returns-2 c =
     let st = c .before .before .before .before in
-    c .update2 .ensures h l rule
-    ∙ ap (λ (n : ℕ). dot (add n (leValue (bytesOf (st .args .key .high)))) h) (c .before .before .before .update .ensures h l rule)
+    let h = first (st .args .multiples .now) in
+    c .update2 .ensures
+    ∙ ap (λ (n : ℕ). dot (add n (leValue (bytesOf (st .args .key .high)))) h) (c .before .before .before .update .ensures)
     ∙ ap (λ (z : KeySize). polyvalFrom h (num (st .args .s)) (map leValue (blocks (length (keyBytes z (st .args .key)) / 16) (keyBytes z (st .args .key)))))
     (sym (c .before .enum-told2 .given .1))
 

@@ -7,8 +7,7 @@ use Rattle.bits.specs.Blocks.{blocks}
 use Rattle.bits.specs.Words.{leBytes, leValue}
 use Rattle.aes.specs.Form.{bytesOf, keyBytes}
 use Rattle.rfc8452.specs.Polyval.{polyvalFrom, polyval}
-use Rattle.polyval.specs.Form.{num}
-use Rattle.polyval.proofs.Halves.{halves-lt}
+use Rattle.polyval.specs.Form.{first}
 use Rattle.handle.specs.Wrap.{hashed}
 use Rattle.keywrap.proofs.Ends.{hash-ends}
 use borrow.Author.Needs.{needs}
@@ -44,15 +43,13 @@ returns c =
     let aad = bytesOf (st .args .aad) in
     let key = keyBytes (st .args .size) (st .args .key) in
     let bs = blocks (length key / 16) key in
-    let h = num (e .result) in
-    let l = halves-lt (e .result .hi) (e .result .lo) (search needs) (search needs) in
-    let rule = c .before .before .before .before .before .before .before .before .multiples .ensures in
+    let table = c .before .before .before .before .before .before .before .before .multiples in
     let len = bytesOf (c .before .before .length-block .result) in
     c .to-block .ensures
     ∙ ap (leBytes 16)
-    (hash-ends h aad len bs _ _ _ (c .before .before .before .before .before .before .update .ensures h l rule)
-    (c .before .before .before .before .hash-key .ensures h l rule) (c .before .update2 .ensures h l rule)
-    ∙ ap₂ (λ (n : ℕ) (b : List ℕ). polyvalFrom n 0 (map leValue (aad ∷ (bs ++ (b ∷ []))))) (e .ensures) (c .before .before .length-block .ensures))
+    (hash-ends (first (table .result)) aad len bs _ _ _ (c .before .before .before .before .before .before .update .ensures)
+    (c .before .before .before .before .hash-key .ensures) (c .before .update2 .ensures)
+    ∙ ap₂ (λ (n : ℕ) (b : List ℕ). polyvalFrom n 0 (map leValue (aad ∷ (bs ++ (b ∷ []))))) (table .ensures .0 ∙ e .ensures) (c .before .before .length-block .ensures))
 
 pub hashed-spec : {M : Type 1} → statement M
 hashed-spec =

@@ -1,7 +1,7 @@
 -- Assumes nothing.
 use mathlib.Core.Path.{refl}
-use Rattle.fips197.specs.Sbox.{sbox}
 use Rattle.aes.specs.Form.{bytesOf, keyBytes, schedule}
+use Rattle.aes.proofs.Schedule.{schedule-stored}
 use Rattle.fips197.specs.declared.KeySize.the-variants.{Aes256}
 use Rattle.keywrap.proofs.Ends.{wrap-ends}
 use borrow.Author.Needs.{needs}
@@ -11,8 +11,8 @@ use Rattle.keywrap.proofs.siv.wrap.Tie as tie
 sbox-table-requires : tie.Need-sbox-table-requires
 sbox-table-requires c κs = search needs
 
-fill-table-requires : tie.Need-fill-table-requires
-fill-table-requires c κs = search needs
+mix-table-requires : tie.Need-mix-table-requires
+mix-table-requires c κs = search needs
 
 expand-with-requires : tie.Need-expand-with-requires
 expand-with-requires c κs = search needs
@@ -20,18 +20,18 @@ expand-with-requires c κs = search needs
 tag-with-requires : tie.Need-tag-with-requires
 tag-with-requires c κs =
     let rule = c .before .before .before .before .before .before .before .before .sbox-table .ensures in
-    (c .before .before .before .before .before .fill-table .ensures sbox rule, rule)
+    (c .before .before .before .before .before .mix-table .ensures, rule)
 
 mask-with-requires : tie.Need-mask-with-requires
 mask-with-requires c κs =
     let rule = c .before .before .before .before .before .before .before .before .before .before .before .before .sbox-table .ensures in
-    (c .before .before .before .before .before .before .before .before .before .fill-table .ensures sbox rule, rule)
+    (c .before .before .before .before .before .before .before .before .before .mix-table .ensures, rule)
 
 returns : tie.Need-returns
 returns c =
     let st = c .before .before .before .before .before .before .before .before .before .before .before .before .before .before in
     let w = c .before .before .before .before .before .before .before .before .expand-with in
-    wrap-ends (keyBytes Aes256 (st .args .encryption)) (schedule Aes256 (w .result)) (w .ensures) (bytesOf (st .args .integrity)) (bytesOf (st .args .aad))
+    wrap-ends (keyBytes Aes256 (st .args .encryption)) (schedule Aes256 (w .result)) (schedule-stored Aes256 (st .args .encryption) (w .result) (w .ensures)) (bytesOf (st .args .integrity)) (bytesOf (st .args .aad))
     (keyBytes (st .args .size) (st .args .key)) _ _ refl (c .before .before .before .before .tag-with .ensures) (c .mask-with .ensures)
 
 pub wrap-spec : {M : Type 1} → statement M
@@ -39,7 +39,7 @@ wrap-spec =
     tie.close
     (tie.spec
     sbox-table-requires
-    fill-table-requires
+    mix-table-requires
     expand-with-requires
     tag-with-requires
     mask-with-requires

@@ -3,7 +3,7 @@ use mathlib.Core.Path.{ap, _∙_}
 use Prim.Native.Nat.{ℕ}
 use borrow.Author.Needs.{needs}
 use Rattle.rfc8452.specs.Field.{add}
-use Rattle.polyval.specs.Form.{num}
+use Rattle.polyval.specs.Form.{num, first}
 use Rattle.polyval.proofs.Halves.{halves-lt}
 use Rattle.polyval.proofs.Windows.{from-halves}
 use Rattle.polyval.proofs.dot.dot.Statement.{statement}
@@ -25,14 +25,15 @@ reduce-requires-2 : tie.Need-reduce-requires-2
 reduce-requires-2 c κs = search needs
 
 returns : tie.Need-returns
-returns c h l rule =
-    let a = c .before .before .before .before .before .args .a in
+returns c =
+    let st = c .before .before .before .before .before in
+    let a = st .args .a in
     let low = c .before .before .before .reduce in
     let r = c .reduce2 in
-    from-halves h (a .hi) (a .lo) (num (low .result)) (num (r .result)) l (search needs) (search needs)
+    from-halves (first (st .args .multiples .now)) (a .hi) (a .lo) (num (low .result)) (num (r .result)) (st .pre .0) (search needs) (search needs)
     (halves-lt (low .result .hi) (low .result .lo) (search needs) (search needs)) (halves-lt (r .result .hi) (r .result .lo) (search needs) (search needs))
-    (low .ensures ∙ c .before .before .before .before .product .ensures h l rule)
-    (r .ensures ∙ c .before .add-wide .ensures ∙ ap (λ (v : ℕ). add v (num (low .result))) (c .before .before .product2 .ensures h l rule))
+    (low .ensures ∙ c .before .before .before .before .product .ensures)
+    (r .ensures ∙ c .before .add-wide .ensures ∙ ap (λ (v : ℕ). add v (num (low .result))) (c .before .before .product2 .ensures))
 
 pub dot-spec : {M : Type 1} → statement M
 dot-spec =

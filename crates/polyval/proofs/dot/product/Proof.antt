@@ -8,21 +8,21 @@ use borrow.Author.Needs.{needs}
 use lib.Dec.{lit<}
 use lib.Pow.{shr-lt}
 use Rattle.rfc8452.specs.Field.{multiply}
-use Rattle.polyval.specs.Form.{value, Multiples}
+use Rattle.polyval.specs.Form.{value, first}
 use Rattle.polyval.proofs.Windows.{no-bits, horner, third-word, third-fits}
 use Rattle.polyval.proofs.dot.product.Statement.{statement}
 use Rattle.polyval.proofs.dot.product.Tie as tie
 
 abbrev Inv-loop : tie.InvT-loop
-Inv-loop t x w₀ s₀ w s =
-    (s ≤ 64) × (s % 4 ≡ 0) × (w .w1 < 2 ^ 64) × ((w .w2 + 1) * 2 ^ s ≤ 2 ^ 64) × ((h : ℕ) → h < 2 ^ 128 → Multiples h t → value w ≡ multiply h (x / 2 ^ s))
+Inv-loop multiples x w₀ s₀ w s =
+    (s ≤ 64) × (s % 4 ≡ 0) × (w .w1 < 2 ^ 64) × ((w .w2 + 1) * 2 ^ s ≤ 2 ^ 64) × (value w ≡ multiply (first multiples) (x / 2 ^ s))
 
 abbrev μ-loop : tie.MeasureT-loop
-μ-loop t x w₀ s₀ w s = s
+μ-loop multiples x w₀ s₀ w s = s
 
 loop-holds : tie.Need-loop-holds Inv-loop μ-loop
 unfolding value
-loop-holds c = (le-refl 64, refl, lit< tt, le-refl (2 ^ 64), λ h l rule. no-bits h (c .args .x) (c .fits .x .fits))
+loop-holds c = (le-refl 64, refl, lit< tt, le-refl (2 ^ 64), no-bits (first (c .args .multiples .now)) (c .args .x) (c .fits .x .fits))
 
 sub-s : tie.Need-sub-s Inv-loop μ-loop
 sub-s c = search needs
@@ -44,24 +44,27 @@ loop-again c =
     let at-loop = c .before .before .before in
     let s = at-loop .loop .s in
     let w = at-loop .loop .w in
-    let x = at-loop .before .args .x in
+    let st = at-loop .before in
+    let x = st .args .x in
+    let h = first (st .args .multiples .now) in
     let e : s ≡ s - 4 + 4 = omega arith in
     let fits = third-word (w .w2) (w .w1 / 2 ^ 60) (s - 4) (shr-lt 4 60 (at-loop .loop .inv .2)) (subst (λ (n : ℕ). (w .w2 + 1) * 2 ^ n ≤ 2 ^ 64) e (at-loop .loop .inv .3)) in (
       omega arith,
       omega arith,
       search needs,
       subst (λ (n : ℕ). (n + 1) * 2 ^ (s - 4) ≤ 2 ^ 64) (sym (c .shift-add .ensures .1)) fits,
-      λ h l rule. c .shift-add .ensures .0
-          ∙ horner h x (s - 4) (value w) _ l (search needs) (at-loop .loop .inv .4 h l rule ∙ ap (λ (n : ℕ). multiply h (x / 2 ^ n)) e)
-          (c .before .entry .ensures ∙ rule (x / 2 ^ (s - 4) % 16) (mod-lt _ (lit< tt))),
+      c .shift-add .ensures .0
+          ∙ horner h x (s - 4) (value w) _ (st .pre .0) (search needs) (at-loop .loop .inv .4 ∙ ap (λ (n : ℕ). multiply h (x / 2 ^ n)) e)
+          (c .before .entry .ensures ∙ st .pre .1 (x / 2 ^ (s - 4) % 16) (mod-lt _ (lit< tt))),
     )
 
 returns : tie.Need-returns Inv-loop μ-loop
-returns c h l rule =
+returns c =
     let at-loop = c .before in
     let x = at-loop .before .args .x in
+    let h = first (at-loop .before .args .multiples .now) in
     let e : at-loop .loop .s ≡ 0 = omega arith in
-    at-loop .loop .inv .4 h l rule ∙ ap (λ (n : ℕ). multiply h (x / 2 ^ n)) e ∙ ap (multiply h) (div-one x)
+    at-loop .loop .inv .4 ∙ ap (λ (n : ℕ). multiply h (x / 2 ^ n)) e ∙ ap (multiply h) (div-one x)
 
 pub product-spec : {M : Type 1} → statement M
 product-spec =

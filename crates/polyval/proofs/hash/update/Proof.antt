@@ -3,7 +3,7 @@ use mathlib.Core.Path.{ap, _∙_}
 use Prim.Native.Nat.{ℕ}
 use borrow.Author.Needs.{needs}
 use Rattle.rfc8452.specs.Field.{add, dot}
-use Rattle.polyval.specs.Form.{num}
+use Rattle.polyval.specs.Form.{num, first}
 use Rattle.polyval.proofs.hash.update.Statement.{statement}
 use Rattle.polyval.proofs.hash.update.Tie as tie
 
@@ -17,9 +17,9 @@ dot-requires : tie.Need-dot-requires
 dot-requires c κs = search needs
 
 returns : tie.Need-returns
-returns c h l rule =
-    c .dot .ensures h l rule
-    ∙ ap (λ (n : ℕ). dot n h) (c .before .add .ensures ∙ ap (add (num (c .before .before .before .args .s))) (c .before .before .from-block .ensures))
+returns c =
+    c .dot .ensures
+    ∙ ap (λ (n : ℕ). dot n (first (c .before .before .before .args .multiples .now))) (c .before .add .ensures ∙ ap (add (num (c .before .before .before .args .s))) (c .before .before .from-block .ensures))
 
 pub update-spec : {M : Type 1} → statement M
 update-spec = tie.close (tie.spec from-block-requires add-requires dot-requires returns)

@@ -2,13 +2,16 @@
 -- Assumes nothing.
 use mathlib.Core.Path.{_≡_, refl, sym, ap, subst, _∙_}
 use mathlib.Core.List.{List}
-use Prim.Native.Nat.{ℕ, _+_, _-_, _*_, _%_, _≤_, _<_}
+use Prim.Native.Nat.{ℕ, _+_, _-_, _*_, _%_, _^_, _≤_, _<_}
 use native.Mathlib.Nat.{mod-eq-of-lt}
 use native.Mathlib.Omega.{arith}
 use borrow.Author.Needs.{needs}
+use lib.Dec.{lit<}
 use lib.ListN.{length}
+use Rattle.bits.proofs.Field.{times-one}
 use Rattle.rfc8452.specs.Field.{add, timesX, multiply}
-use Rattle.polyval.specs.Form.{num}
+use Rattle.rfc8452.proofs.Field.{gf128}
+use Rattle.polyval.specs.Form.{num, Multiples, first}
 use Rattle.polyval.proofs.Halves.{halves-lt}
 use Rattle.polyval.proofs.Windows.{at, Below, put, put-length, one-more, first-two, even, odd}
 use Rattle.polyval.proofs.table.multiples.Statement.{statement}
@@ -92,9 +95,14 @@ loop-again c =
     )
 
 returns : tie.Need-returns Inv-loop μ-loop
-returns c u l =
+returns c =
+    let h = c .before .before .args .h in
+    let t = c .before .loop .t in
+    let small = halves-lt (h .hi) (h .lo) (search needs) (search needs) in
     let e : 16 ≡ 2 * c .before .loop .i = omega arith in
-    c .before .loop .inv .3 u (subst (λ (n : ℕ). u < n) e l)
+    let all : Multiples (num h) t = λ u l. c .before .loop .inv .3 u (subst (λ (n : ℕ). u < n) e l) in
+    let one : first t ≡ num h = all 1 (lit< tt) ∙ times-one gf128 (num h) small in
+    (one, (subst (λ (n : ℕ). n < 2 ^ 128) (sym one) small, subst (λ (n : ℕ). Multiples n t) (sym one) all))
 
 pub multiples-spec : {M : Type 1} → statement M
 multiples-spec =

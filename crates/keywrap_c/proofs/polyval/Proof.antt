@@ -1,8 +1,8 @@
--- s is POLYVAL of the blocks before i, by whatever key the table has.
+-- s is POLYVAL of the blocks before i.
 -- Assumes nothing.
 use mathlib.Core.Path.{_≡_, refl, ap, ap₂, _∙_}
 use mathlib.Core.List.{map}
-use Prim.Native.Nat.{ℕ, _-_, _/_, _^_, _≤_, _<_}
+use Prim.Native.Nat.{ℕ, _-_, _/_, _≤_}
 use native.Mathlib.Omega.{arith}
 use borrow.Author.Needs.{needs}
 use lib.ListN.{length}
@@ -10,15 +10,14 @@ use Rattle.bits.specs.Blocks.{blocks}
 use Rattle.bits.specs.Words.{leBytes, leValue}
 use Rattle.aes.specs.Form.{bytesOf}
 use Rattle.rfc8452.specs.Polyval.{polyvalFrom, polyval}
-use Rattle.polyval.specs.Form.{num, Multiples}
+use Rattle.polyval.specs.Form.{num, first}
 use Rattle.polyval.proofs.Folding.{block-more}
-use Rattle.polyval.proofs.Halves.{halves-lt}
-use Rattle.polyval.proofs.hash.polyval.Statement.{statement}
-use Rattle.polyval.proofs.hash.polyval.Tie as tie
+use Rattle.keywrap_c.proofs.polyval.Statement.{statement}
+use Rattle.keywrap_c.proofs.polyval.Tie as tie
 
 abbrev Inv-loop : tie.InvT-loop
 Inv-loop bytes t n s₀ i₀ s i =
-    (i ≤ n) × ((h : ℕ) → h < 2 ^ 128 → Multiples h t → num s ≡ polyvalFrom h 0 (map leValue (blocks i bytes)))
+    (i ≤ n) × (num s ≡ polyvalFrom (first t) 0 (map leValue (blocks i bytes)))
 
 abbrev μ-loop : tie.MeasureT-loop
 μ-loop bytes t n s₀ i₀ s i = n - i
@@ -30,7 +29,7 @@ multiples-requires : tie.Need-multiples-requires Inv-loop μ-loop
 multiples-requires c κs = search needs
 
 loop-holds : tie.Need-loop-holds Inv-loop μ-loop
-loop-holds c = (search needs, λ h l rule. refl)
+loop-holds c = (search needs, refl)
 
 mul-block-at : tie.Need-mul-block-at Inv-loop μ-loop
 mul-block-at c = search needs
@@ -52,8 +51,8 @@ loop-again c =
     let at-loop = c .before .before .before .before in
     let bytes = at-loop .before .before .before .before .args .bytes .now in (
       omega arith,
-      λ h l rule. block-more h (at-loop .loop .i) (num (at-loop .loop .s)) (num (c .update .result)) bytes (bytesOf (c .before .block-at .result))
-          (at-loop .loop .inv .1 h l rule) (c .before .block-at .ensures) (c .update .ensures h l rule),
+      block-more (first (at-loop .before .multiples .result)) (at-loop .loop .i) (num (at-loop .loop .s)) (num (c .update .result)) bytes (bytesOf (c .before .block-at .result))
+          (at-loop .loop .inv .1) (c .before .block-at .ensures) (c .update .ensures),
     )
 
 to-block-requires : tie.Need-to-block-requires Inv-loop μ-loop
@@ -68,8 +67,8 @@ returns c =
     let end : at-loop .loop .i ≡ length bytes / 16 = omega arith in
     c .to-block .ensures
     ∙ ap (leBytes 16)
-    (at-loop .loop .inv .1 (num (e .result)) (halves-lt (e .result .hi) (e .result .lo) (search needs) (search needs)) (at-loop .before .multiples .ensures)
-    ∙ ap₂ (λ (h n : ℕ). polyvalFrom h 0 (map leValue (blocks n bytes))) (e .ensures) end)
+    (at-loop .loop .inv .1
+    ∙ ap₂ (λ (h n : ℕ). polyvalFrom h 0 (map leValue (blocks n bytes))) (at-loop .before .multiples .ensures .0 ∙ e .ensures) end)
 
 pub polyval-spec : {M : Type 1} → statement M
 polyval-spec =

@@ -1,18 +1,17 @@
-use Rattle.fips197.specs.Sbox.{sbox}
 use borrow.Author.Needs.{needs}
-use Rattle.aes_blocks.proofs.encrypt_blocks.Statement.{statement}
-use Rattle.aes_blocks.proofs.encrypt_blocks.Tie as tie
+use Rattle.aes_c.proofs.encrypt_blocks.Statement.{statement}
+use Rattle.aes_c.proofs.encrypt_blocks.Tie as tie
 
 sbox-table-requires : tie.Need-sbox-table-requires
 sbox-table-requires c κs = search needs
 
-fill-table-requires : tie.Need-fill-table-requires
-fill-table-requires c κs = search needs
+mix-table-requires : tie.Need-mix-table-requires
+mix-table-requires c κs = search needs
 
 encrypt-blocks-with-requires : tie.Need-encrypt-blocks-with-requires
 encrypt-blocks-with-requires c κs =
     let rule = c .before .before .before .before .before .before .sbox-table .ensures in
-    (c .before .before .before .fill-table .ensures sbox rule, rule)
+    (c .before .before .before .mix-table .ensures, rule)
 
 same-length : tie.Need-same-length
 same-length c = search needs
@@ -25,7 +24,7 @@ encrypt-blocks-spec =
     tie.close
     (tie.spec
     sbox-table-requires
-    fill-table-requires
+    mix-table-requires
     encrypt-blocks-with-requires
     same-length
     returns)
