@@ -67,7 +67,7 @@ pub fn effective_address(registers: &[u64; 16], rip: u64, bytes: u64, place: Mem
     }
 }
 
-pub fn handle_length(size: KeySize) -> u64
+fn handle_length(size: KeySize) -> u64
     ensures { λ r. ⌜ r ≡ handleLength size ⌝ }
 {
     match size {
@@ -76,7 +76,7 @@ pub fn handle_length(size: KeySize) -> u64
     }
 }
 
-pub fn canonical(a: u64) -> bool
+fn canonical(a: u64) -> bool
     ensures { λ r. ⌜ r ≡ ranges.canonical a ⌝ }
 {
     (a / 0x8000_0000_0000 == 0) | (a / 0x8000_0000_0000 == 0x1FFFF)

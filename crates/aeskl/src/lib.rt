@@ -140,7 +140,7 @@ fn failed(cpu: [u8; 408]) -> [u8; 408]
     ensures { λ r. ⌜ r ≡ withZf 1 cpu ⌝ }
 {
     let mut kept = cpu;
-    put_zf(&mut kept, 1);
+    put_zf(&mut kept, true);
     kept
 }
 
@@ -150,7 +150,7 @@ fn done_single(cpu: [u8; 408], n: u8, b: Block) -> [u8; 408]
 {
     let mut c = cpu;
     put_xmm(&mut c, n, b);
-    put_zf(&mut c, 0);
+    put_zf(&mut c, false);
     c
 }
 
@@ -169,7 +169,7 @@ fn done_wide(
 {
     let mut c = cpu;
     cipher_blocks(mixed, sbox, direction, size, key, &mut c[0..128]);
-    put_zf(&mut c, 0);
+    put_zf(&mut c, false);
     c
 }
 

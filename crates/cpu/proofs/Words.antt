@@ -33,8 +33,8 @@ quad-stored s at x =
 
 -- ---- ZF, where it was 0, and the zero fields
 
-pub zf-fits : (w z : ℕ) → w < 2 ^ 64 → w / 2 ^ 6 % 2 ≡ 0 → z < 2 → w + z * 64 < 2 ^ 64
-zf-fits w z h e l = omega arith
+pub zf-fits : (w : ℕ) → w < 2 ^ 64 → w / 2 ^ 6 % 2 ≡ 0 → w + 64 < 2 ^ 64
+zf-fits w h e = omega arith
 
 -- one byte more that is there
 zeros-more : (s : List ℕ) (at n : ℕ) (z : Bool) → at < length s → allZero (part n (at + 1) s) ≡ z → allZero (part (suc n) at s) ≡ (eqb (getD s at 0) 0 && z)

@@ -1,5 +1,6 @@
 // The CPU record: what stands in its 408 bytes, read and written in place. Whoever lends a record has seen to its length (refusal 4).
 ghost use mathlib.Core.Path.{_≡_};
+ghost use mathlib.Core.Bool.{cond};
 ghost use Prim.Native.Nat.{ℕ, _+_, _<_, _≤_};
 ghost use lib.ListN.{length, getD};
 ghost use lib.Seq.{sets};
@@ -135,20 +136,22 @@ fn clear_low(x: u64) -> u64
 }
 
 // ZF as told, the other five flags 0.
-fn flags(z: u8, x: u64) -> u64
-    requires { ⌜ z < 2 ⌝ }
-    ensures { λ r. ⌜ r ≡ model.flags z x ⌝ }
+fn flags(zf: bool, x: u64) -> u64
+    ensures { λ r. ⌜ r ≡ model.flags (cond zf 1 0) x ⌝ }
 {
-    clear_low(clear_high(x)) + (z as u64) * 64
+    let y = clear_low(clear_high(x));
+    if zf {
+        return y + 64;
+    }
+    y
 }
 
-pub fn put_zf(cpu: &mut [u8], z: u8)
+pub fn put_zf(cpu: &mut [u8], zf: bool)
     requires { ⌜ length (now cpu) ≡ model.cpuSize ⌝ }
-    requires { ⌜ z < 2 ⌝ }
-    ensures { λ _. ⌜ now (cpu .exit) ≡ model.withZf z (now (cpu .entry)) ⌝ }
+    ensures { λ _. ⌜ now (cpu .exit) ≡ model.withZf (cond zf 1 0) (now (cpu .entry)) ⌝ }
 {
     let x = quad_at(cpu, RFLAGS);
-    put_quad(cpu, RFLAGS, flags(z, x));
+    put_quad(cpu, RFLAGS, flags(zf, x));
 }
 
 // ---- CPL, control bits and the zero fields

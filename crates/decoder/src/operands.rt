@@ -11,7 +11,7 @@ use isa::Operands;
 use isa::Prefixes;
 use isa::Step;
 
-pub fn byte_at(s: &[u8], at: usize) -> Step
+pub(crate) fn byte_at(s: &[u8], at: usize) -> Step
     ensures { λ r. ⌜ r ≡ isa.byteAt (now (s .entry)) at ⌝ }
 {
     if at < s.len() {
@@ -145,7 +145,7 @@ fn sib_from(s: &[u8], p: Prefixes, mode: u8, reg: u8, step: Step) -> Operands
 }
 
 // The ModRM byte before a position, and what it has behind it.
-pub fn modrm_of(s: &[u8], at: usize, p: Prefixes, m: u8) -> Operands
+pub(crate) fn modrm_of(s: &[u8], at: usize, p: Prefixes, m: u8) -> Operands
     ensures { λ r. ⌜ r ≡ isa.modrmOf (now (s .entry)) at p m ⌝ }
 {
     let reg = extended(p.r, m / 8);

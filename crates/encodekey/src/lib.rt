@@ -120,6 +120,6 @@ pub fn encode(e: EncodeKey, k: IwKey, cpu: [u8; 408]) -> [u8; 408]
         e.destination,
         (k.no_backup as u64) + 2 * (k.source as u64),
     );
-    put_zf(&mut c, 0);
+    put_zf(&mut c, false);
     c
 }

@@ -2,12 +2,12 @@
 -- Assumes nothing.
 use mathlib.Core.Path.{_≡_, _∙_, sym, ap, ap₂}
 use mathlib.Core.List.{List, [], _∷_, _++_}
-use Prim.Native.Nat.{ℕ, suc, _+_, _<_}
+use Prim.Native.Nat.{ℕ, suc, _+_, _<_, _≤_}
 use native.Mathlib.Nat.{add-zero}
 use native.Mathlib.Numerals.{add-one}
 use native.Mathlib.Omega.{arith}
-use lib.ListN.{length, getD, set, take, drop, length-drop}
-use lib.Seq.{take-suc, take-suc-set, getD-drop, drop-drop}
+use lib.ListN.{length, getD, set, take, drop, length-drop, length-set}
+use lib.Seq.{take-all, take-suc, take-suc-set, getD-drop, drop-drop}
 use Rattle.model.specs.Numbers.{part}
 use Rattle.model.specs.Records.{processorLimit}
 use Rattle.model.specs.Layout.{entrySize, keyAt, entryAt, entriesAt, slotAt, platformAt, machineAt}
@@ -18,7 +18,7 @@ use Rattle.model.specs.declared.Platform.{Platform}
 use Rattle.model.specs.declared.Machine.{Machine}
 
 -- one byte more of an array that is filled from the front
-pub byte-read : (s a : List ℕ) (at i : ℕ) → at + i < length s → i < length a → take i a ≡ part i at s
+byte-read : (s a : List ℕ) (at i : ℕ) → at + i < length s → i < length a → take i a ≡ part i at s
     → take (i + 1) (set a i (getD s (at + i) 0)) ≡ part (i + 1) at s
 byte-read s a at i h k e =
     ap (λ (n : ℕ). take n (set a i (getD s (at + i) 0))) (add-one i)
@@ -26,6 +26,26 @@ byte-read s a at i h k e =
     ∙ ap₂ (λ (w : List ℕ) (x : ℕ). w ++ (x ∷ [])) e (sym (getD-drop at s i 0))
     ∙ sym (take-suc (drop at s) i 0 (simp length-drop (omega arith)))
     ∙ ap (λ (n : ℕ). part n at s) (sym (add-one i))
+
+-- n bytes from a position, of which the first i are read
+pub record Reading (n : ℕ) (s : List ℕ) (at : ℕ) (a : List ℕ) (i : ℕ) : Type 0 where
+  pub within : i ≤ n
+  pub size : length a ≡ n
+  pub front : take i a ≡ part i at s
+
+module _ {n : ℕ} {s : List ℕ} {at : ℕ} {a : List ℕ} {i : ℕ} (t : Reading n s at a i) where
+  pub reading-more : at + n ≤ length s → i < n → Reading n s at (set a i (getD s (at + i) 0)) (i + 1)
+  reading-more f h =
+      record {
+        within = omega arith;
+        size = length-set a i (getD s (at + i) 0) ∙ t .size;
+        front = byte-read s a at i (omega arith) (omega arith) (t .front);
+      }
+
+  pub reading-all : n ≤ i → a ≡ part n at s
+  reading-all h =
+      let e : i ≡ n = omega arith in
+      sym (take-all i a (omega arith)) ∙ t .front ∙ ap (λ (k : ℕ). part k at s) e
 
 -- ---- records, field by field
 

@@ -2,12 +2,12 @@
 -- Assumes nothing.
 use mathlib.Core.Path.{_≡_, _∙_, refl, sym, ap}
 use mathlib.Core.List.{List, [], _∷_, _++_, append-nil, append-assoc}
-use Prim.Native.Nat.{ℕ, suc, _+_, _*_, _<_}
+use Prim.Native.Nat.{ℕ, suc, _+_, _*_, _<_, _≤_}
 use native.Mathlib.Nat.{zero-add, le-refl}
 use native.Mathlib.Numerals.{add-one}
 use native.Mathlib.Omega.{arith}
-use lib.ListN.{length, getD, set, take, length-append, drop-of-length-le}
-use lib.Seq.{sets, sets-eq, take-suc, length-take-le}
+use lib.ListN.{length, getD, set, take, length-append, length-set, drop-of-length-le}
+use lib.Seq.{sets, sets-eq, take-all, take-suc, length-take-le}
 use Rattle.bits.proofs.Lists.{sets-append}
 use Rattle.model.specs.Records.{processorLimit}
 use Rattle.model.specs.Layout.{iwKeySize, entrySize, slotSize, platformSize, machineSize, keyBytes, entryBytes, entriesBytes, slotBytes, platformBytes, machineBytes}
@@ -34,12 +34,32 @@ whole o w e =
     ∙ append-nil w
 
 -- one byte more
-pub byte-written : (o l a : List ℕ) (at i : ℕ) → i < length a → l ≡ sets o at (take i a)
+byte-written : (o l a : List ℕ) (at i : ℕ) → i < length a → l ≡ sets o at (take i a)
     → set l (at + i) (getD a i 0) ≡ sets o at (take (i + 1) a)
 byte-written o l a at i h p =
     then o at i (take i a) (getD a i 0 ∷ []) (length-take-le i a (omega arith)) p
     ∙ ap (sets o at) (sym (take-suc a i 0 h))
     ∙ ap (λ (n : ℕ). sets o at (take n a)) (sym (add-one i))
+
+-- n bytes to a position, of which the first i are written
+pub record Writing (n : ℕ) (o : List ℕ) (at : ℕ) (a l : List ℕ) (i : ℕ) : Type 0 where
+  pub within : i ≤ n
+  pub size : length a ≡ n
+  pub same : length l ≡ length o
+  pub front : l ≡ sets o at (take i a)
+
+module _ {n : ℕ} {o : List ℕ} {at : ℕ} {a l : List ℕ} {i : ℕ} (t : Writing n o at a l i) where
+  pub writing-more : i < n → Writing n o at a (set l (at + i) (getD a i 0)) (i + 1)
+  writing-more h =
+      record {
+        within = omega arith;
+        size = t .size;
+        same = length-set l (at + i) (getD a i 0) ∙ t .same;
+        front = byte-written o l a at i (omega arith) (t .front);
+      }
+
+  pub writing-all : n ≤ i → l ≡ sets o at a
+  writing-all h = t .front ∙ ap (sets o at) (take-all i a (omega arith))
 
 -- ---- an IWKey, an entry, a place for an IWKey
 

@@ -26,7 +26,7 @@ fn write_record(cpu: &mut [u8], bytes: [u8; 408])
 }
 
 // A step with the machine by value and the CPU record lent.
-pub fn take_step(
+fn take_step(
     m: Machine,
     processor: u8,
     cpu: &mut [u8],

@@ -97,14 +97,14 @@ pub fn load(l: LoadIwKey, random: Random, k: IwKey, cpu: [u8; 408]) -> Executed
     let bytes = random.bytes;
     let mut c = cpu;
     if source != 1 {
-        put_zf(&mut c, 0);
+        put_zf(&mut c, false);
         return Executed { key: plain, cpu: c };
     }
     if random.ready {
         let key = mixed(plain, bytes);
-        put_zf(&mut c, 0);
+        put_zf(&mut c, false);
         return Executed { key, cpu: c };
     }
-    put_zf(&mut c, 1);
+    put_zf(&mut c, true);
     Executed { key: k, cpu: c }
 }

@@ -3,10 +3,10 @@
 use mathlib.Core.Path.{_≡_, _∙_, refl, sym, ap}
 use mathlib.Core.Bool.{Bool, true, false, cond, not, _&&_}
 use mathlib.Core.List.{[]}
-use Prim.Native.Nat.{ℕ}
+use Prim.Native.Nat.{ℕ, _≤_, _<_}
 use lib.Dec.{eqb, leb}
 use lib.ListN.{replicate}
-use borrow.Author.Tests.{ne-eqb}
+use borrow.Author.Tests.{ne-eqb, not-true, not-false, le-leb, lt-leb}
 use native.Mathlib.Nat.{suc-ne-zero}
 use Rattle.bits.proofs.Choice.{cond-on, cond-off}
 use Rattle.model.specs.Calls as model
@@ -47,18 +47,54 @@ module _ (m : Machine) (c : Call) where
     pub performed : refusal (viewOf m) c ≡ 0 → call m c ≡ perform m c
     performed e = call-performed m c (cond-on v (refusal (viewOf m) c) 1 ∙ e)
 
--- the same by value
-pub outcome-refused : (m : Machine) (c : Call) (n : ℕ) → (n ≡ 0 → ⊥) → call m c ≡ refused n m c → refusedWith m n ≡ outcomeOf (call m c)
-outcome-refused m c n h e =
-    (λ j. record { machine = m; answer = sym (answer-refused n h) j; value = 0 }) ∙ ap outcomeOf (sym e)
+-- ---- the same by value, told by what the code's test for refusal 1 said
+
+pub found-valid : (m : Machine) {b : Bool} → b ≡ valid m → not b ≡ false → valid m ≡ true
+found-valid m {b} e h = sym e ∙ not-false b h
+
+pub found-not : (m : Machine) {b : Bool} → b ≡ valid m → not b ≡ true → valid m ≡ false
+found-not m {b} e h = sym e ∙ not-true b h
+
+abbrev pub doneWith : Machine → Outcome
+doneWith m = record { machine = m; answer = Done; value = 0 }
+
+module _ (m : Machine) (c : Call) where
+  refused-by : (n : ℕ) → (n ≡ 0 → ⊥) → call m c ≡ refused n m c → refusedWith m n ≡ outcomeOf (call m c)
+  refused-by n h e =
+      (λ j. record { machine = m; answer = sym (answer-refused n h) j; value = 0 }) ∙ ap outcomeOf (sym e)
+
+  module _ {b : Bool} (e : b ≡ valid m) where
+    pub outcome-invalid : not b ≡ true → refusedWith m 1 ≡ outcomeOf (call m c)
+    outcome-invalid h = refused-by 1 (suc-ne-zero 0) (not-valid m c (found-not m e h))
+
+    module _ (h : not b ≡ false) where
+      pub outcome-refused : (n : ℕ) → n ≡ refusal (viewOf m) c → (n ≡ 0 → ⊥) → refusedWith m n ≡ outcomeOf (call m c)
+      outcome-refused n p z = refused-by n z (stopped m c (found-valid m e h) n (sym p) z)
+
+      pub outcome-done : (n : Machine) → refusal (viewOf m) c ≡ 0 → perform m c ≡ done n [] 0 → doneWith n ≡ outcomeOf (call m c)
+      outcome-done n r p = sym (ap outcomeOf (performed m c (found-valid m e h) r ∙ p))
+
+      -- a call whose only other refusal is that of its code
+      module _ (k code : ℕ) (r : refusal (viewOf m) c ≡ cond (leb k code) 2 0) where
+        pub code-refused : k ≤ code → refusedWith m 2 ≡ outcomeOf (call m c)
+        code-refused l = outcome-refused 2 (sym (r ∙ cond-on (le-leb k code l) 2 0)) (suc-ne-zero 1)
+
+        pub code-done : (n : Machine) → code < k → perform m c ≡ done n [] 0 → doneWith n ≡ outcomeOf (call m c)
+        code-done n l = outcome-done n (r ∙ cond-off (lt-leb k code l) 2 0)
 
 -- ---- refusals of calls that have few operands
 
-pub settle-refusal : (v : View) (code : ℕ) → refusal v (settle (record { code = code })) ≡ cond (leb 2 code) 2 0
+abbrev pub settling : ℕ → Call
+settling code = settle (record { code = code })
+
+abbrev pub sleeping : ℕ → Call
+sleeping code = sleep (record { code = code })
+
+pub settle-refusal : (v : View) (code : ℕ) → refusal v (settling code) ≡ cond (leb 2 code) 2 0
 unfolding refusal tests
 settle-refusal v code = refl
 
-pub sleep-refusal : (v : View) (code : ℕ) → refusal v (sleep (record { code = code })) ≡ cond (leb 3 code) 2 0
+pub sleep-refusal : (v : View) (code : ℕ) → refusal v (sleeping code) ≡ cond (leb 3 code) 2 0
 unfolding refusal tests
 sleep-refusal v code = refl
 
@@ -82,12 +118,3 @@ module _ (p : PowerOn) where
   pub power-refused : (validCount (p .count) && validFeatures (p .features)) ≡ false → refusedWith (fresh 0 0) 1 ≡ outcomeOf (powerOn p)
   unfolding power
   power-refused e = sym (ap (λ (t : Bool). outcomeOf (power t)) e)
-
--- ---- done, by value
-
-abbrev pub doneWith : Machine → Outcome
-doneWith m = record { machine = m; answer = Done; value = 0 }
-
-pub outcome-done : (m : Machine) (c : Call) (n : Machine) → valid m ≡ true → refusal (viewOf m) c ≡ 0 → perform m c ≡ done n [] 0
-    → doneWith n ≡ outcomeOf (call m c)
-outcome-done m c n v e p = sym (ap outcomeOf (performed m c v e ∙ p))

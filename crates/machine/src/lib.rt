@@ -309,7 +309,7 @@ pub fn step(
         return refused_step(m, 1);
     }
     let d = decode(string);
-    let n = step_refusal(
+    let number = step_refusal(
         m.count,
         m.features,
         processor,
@@ -318,8 +318,8 @@ pub fn step(
         random.len(),
         d,
     );
-    if n != 0 {
-        return refused_step(m, n);
+    if number != 0 {
+        return refused_step(m, number);
     }
     let e = processor_at(m, processor);
     let key = e.key;

@@ -3,7 +3,7 @@ ghost use mathlib.Core.Path.{_≡_};
 ghost use mathlib.Core.Bool.{cond};
 ghost use Rattle.model.specs.Records as records;
 ghost use Rattle.model.specs.Backup as model;
-ghost use Rattle.platform.specs.Form.{copiedOf, failedCopy};
+ghost use Rattle.platform.specs.Form.{copiedOf};
 use model::IwKey;
 use model::Platform;
 use model::Processor;
@@ -15,27 +15,26 @@ pub struct Copied {
     pub platform: Platform,
 }
 
-// "with copy status 0 and the rest kept"
-fn failed_copy(e: Processor, f: Platform) -> Copied
-    ensures { λ r. ⌜ copiedOf r ≡ failedCopy e f ⌝ }
+fn with_copy_status(status: u8, e: Processor) -> Processor
+    ensures { λ r. ⌜ r ≡ records.withCopyStatus status e ⌝ }
 {
     let key = e.key;
-    Copied {
-        processor: Processor {
-            key,
-            copy_status: 0,
-        },
-        platform: f,
+    Processor {
+        key,
+        copy_status: status,
     }
 }
 
 // "Write 0xD91, bit 0 set": IWKeyBackup is not replaced while the storage is still at work on it.
-pub fn copy_out(e: Processor, f: Platform) -> Copied
+fn copy_out(e: Processor, f: Platform) -> Copied
     ensures { λ r. ⌜ copiedOf r ≡ model.copyOut e f ⌝ }
 {
     let key = e.key;
     if (key.no_backup == 1) | (f.pending == 1) {
-        return failed_copy(e, f);
+        return Copied {
+            processor: with_copy_status(0, e),
+            platform: f,
+        };
     }
     let backup = Slot { present: 1, key };
     let mut platform = f;
@@ -45,16 +44,13 @@ pub fn copy_out(e: Processor, f: Platform) -> Copied
     platform.error = 0;
     platform.consumed = 0;
     Copied {
-        processor: Processor {
-            key,
-            copy_status: 1,
-        },
+        processor: with_copy_status(1, e),
         platform,
     }
 }
 
 // "Write 0xD92, bit 0 set: fails (copy status 0) if backup is absent"
-pub fn copy_in(e: Processor, f: Platform) -> Copied
+fn copy_in(e: Processor, f: Platform) -> Copied
     ensures { λ r. ⌜ copiedOf r ≡ model.copyIn e f ⌝ }
 {
     let backup = f.backup;
@@ -68,7 +64,10 @@ pub fn copy_in(e: Processor, f: Platform) -> Copied
             platform: f,
         };
     }
-    failed_copy(e, f)
+    Copied {
+        processor: with_copy_status(0, e),
+        platform: f,
+    }
 }
 
 // "Writing 0 does nothing."

@@ -5,6 +5,7 @@ use mathlib.Core.Bool.{Bool, _&&_, and-assoc, and-true}
 use mathlib.Core.List.{List}
 use Prim.Native.Nat.{ℕ, _+_, _<_, _≤_}
 use native.Mathlib.Numerals.{add-one}
+use native.Mathlib.Omega.{arith}
 use lib.Dec.{eqb, ltb}
 use lib.ListN.{length, getD, drop, drop-of-length-le}
 use lib.Seq.{drop-cons}
@@ -17,12 +18,27 @@ use Rattle.model.specs.declared.Processor.{Processor}
 zero-step : (a : List ℕ) (i : ℕ) → i < length a → allZero (drop i a) ≡ eqb (getD a i 0) 0 && allZero (drop (i + 1) a)
 zero-step a i h = rw (add-one, drop-cons a i 0)
 
-pub zero-next : (a : List ℕ) (z : Bool) (i : ℕ) → i < length a → z && eqb (getD a i 0) 0 && allZero (drop (i + 1) a) ≡ z && allZero (drop i a)
-zero-next a z i h =
-    and-assoc z (eqb (getD a i 0) 0) (allZero (drop (i + 1) a)) ∙ ap (λ (b : Bool). z && b) (sym (zero-step a i h))
+-- n bytes, and the test of those below i: with the rest it says the whole
+pub record Tested (n : ℕ) (a : List ℕ) (z : Bool) (i : ℕ) : Type 0 where
+  pub within : i ≤ n
+  pub size : length a ≡ n
+  pub both : z && allZero (drop i a) ≡ allZero a
 
-pub zero-last : (a : List ℕ) (z : Bool) (i : ℕ) → length a ≤ i → z ≡ z && allZero (drop i a)
-zero-last a z i h = sym (ap (λ (l : List ℕ). z && allZero l) (drop-of-length-le a h) ∙ and-true z)
+module _ {n : ℕ} {a : List ℕ} {z : Bool} {i : ℕ} (t : Tested n a z i) where
+  pub tested-more : i < n → Tested n a (z && eqb (getD a i 0) 0) (i + 1)
+  tested-more h =
+      let l : i < length a = omega arith in
+      record {
+        within = omega arith;
+        size = t .size;
+        both =
+            and-assoc z (eqb (getD a i 0) 0) (allZero (drop (i + 1) a)) ∙ ap (λ (b : Bool). z && b) (sym (zero-step a i l)) ∙ t .both;
+      }
+
+  pub tested-all : n ≤ i → z ≡ allZero a
+  tested-all h =
+      let l : length a ≤ i = omega arith in
+      sym (ap (λ (l : List ℕ). z && allZero l) (drop-of-length-le a l) ∙ and-true z) ∙ t .both
 
 -- processors
 valid-step : (count : ℕ) (l : List Processor) (i : ℕ) → i < length l

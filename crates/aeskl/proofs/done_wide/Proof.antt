@@ -1,5 +1,4 @@
 use mathlib.Core.Path.{_∙_, sym, ap}
-use lib.Dec.{lit<}
 use Rattle.aes.specs.Form.{keyBytes}
 use Rattle.model.specs.Cpu.{withZf}
 use Rattle.model.specs.Instructions.{aes}
@@ -31,11 +30,9 @@ slice-aggregate-put-zf c =
 put-zf-requires : tie.Need-put-zf-requires
 put-zf-requires c κs =
     let a = c .before .before .before .before .args in
-    let f = aes (a .direction) (a .size) (keyBytes (a .size) (a .key)) in (
-      wide-length f (aes-length (a .direction) (a .size) (keyBytes (a .size) (a .key))) (a .cpu) (search needs)
-          (c .before .before .cipher-blocks .last .1 .1 .1 .1 .1 .0) (c .before .before .cipher-blocks .ensures),
-      lit< tt,
-    )
+    let f = aes (a .direction) (a .size) (keyBytes (a .size) (a .key)) in
+    wide-length f (aes-length (a .direction) (a .size) (keyBytes (a .size) (a .key))) (a .cpu) (search needs)
+    (c .before .before .cipher-blocks .last .1 .1 .1 .1 .1 .0) (c .before .before .cipher-blocks .ensures)
 
 returns : tie.Need-returns
 returns c =

@@ -1,4 +1,5 @@
 use mathlib.Core.Path.{_∙_, ap}
+use mathlib.Core.Bool.{cond}
 use Prim.Native.Nat.{ℕ}
 use lib.Seq.{sets}
 use Rattle.bits.specs.Words.{leBytes}
@@ -24,7 +25,7 @@ returns c =
     let st = c .before .before .before .before .before .before .before .before in
     c .before .before .put-quad .ensures
     ∙ ap (λ (v : ℕ). sets (st .args .cpu .now) model.rflagsAt (leBytes 8 v))
-    (c .before .before .before .flags .ensures ∙ ap (model.flags (st .args .z)) (c .before .before .before .before .before .quad-at .ensures))
+    (c .before .before .before .flags .ensures ∙ ap (model.flags (cond (st .args .zf) 1 0)) (c .before .before .before .before .before .quad-at .ensures))
 
 pub put-zf-spec : {M : Type 1} → statement M
 put-zf-spec =

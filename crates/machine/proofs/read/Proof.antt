@@ -1,8 +1,6 @@
 use mathlib.Core.Path.{_∙_, sym}
-use native.Mathlib.Nat.{suc-ne-zero}
-use borrow.Author.Tests.{not-true, not-false}
 use Rattle.model.specs.Calls as calls
-use Rattle.machine.proofs.Calls.{not-valid, stopped, outcome-refused}
+use Rattle.machine.proofs.Calls.{found-valid, outcome-invalid, outcome-refused}
 use Rattle.machine.proofs.Steps.{read-done}
 use Rattle.machine.specs.declared.Answer.the-variants.{Done}
 use borrow.Author.Needs.{needs}
@@ -18,10 +16,8 @@ refused-requires c κs = search needs
 returns : tie.Need-returns
 returns c =
     let a = c .before .before .before .args in
-    let m = a .m in
     c .refused .ensures
-    ∙ outcome-refused m (calls.read (record { processor = a .processor; cpl = a .cpl; address = a .address })) 1 (suc-ne-zero 0)
-    (not-valid m (calls.read (record { processor = a .processor; cpl = a .cpl; address = a .address })) (sym (c .before .before .valid .ensures) ∙ not-true (c .before .before .valid .result) (c .before .if1 .taken)))
+    ∙ outcome-invalid (a .m) (calls.read (record { processor = a .processor; cpl = a .cpl; address = a .address })) (c .before .before .valid .ensures) (c .before .if1 .taken)
 
 read-refusal-requires : tie.Need-read-refusal-requires
 read-refusal-requires c κs = search needs
@@ -32,11 +28,9 @@ refused-requires-2 c κs = search needs
 returns-2 : tie.Need-returns-2
 returns-2 c =
     let a = c .before .before .before .before .before .args in
-    let m = a .m in
-    let v = sym (c .before .before .before .before .valid .ensures) ∙ not-false (c .before .before .before .before .valid .result) (c .before .before .before .if1 .left) in
-    let n = c .before .before .read-refusal .result in
     c .refused2 .ensures
-    ∙ outcome-refused m (calls.read (record { processor = a .processor; cpl = a .cpl; address = a .address })) n (c .before .if2 .taken) (stopped m (calls.read (record { processor = a .processor; cpl = a .cpl; address = a .address })) v n (sym (c .before .before .read-refusal .ensures)) (c .before .if2 .taken))
+    ∙ outcome-refused (a .m) (calls.read (record { processor = a .processor; cpl = a .cpl; address = a .address })) (c .before .before .before .before .valid .ensures) (c .before .before .before .if1 .left) (c .before .before .read-refusal .result)
+    (c .before .before .read-refusal .ensures) (c .before .if2 .taken)
 
 processor-at-requires : tie.Need-processor-at-requires
 processor-at-requires c κs = search needs
@@ -48,7 +42,7 @@ returns-3 : tie.Need-returns-3
 returns-3 c =
     let a = c .before .before .before .before .before .before .before .args in
     let m = a .m in
-    let v = sym (c .before .before .before .before .before .before .valid .ensures) ∙ not-false (c .before .before .before .before .before .before .valid .result) (c .before .before .before .before .before .if1 .left) in
+    let v = found-valid m (c .before .before .before .before .before .before .valid .ensures) (c .before .before .before .before .before .if1 .left) in
     (λ j. record { machine = m; answer = Done; value = c .read-register .ensures j })
     ∙ read-done m v (record { processor = a .processor; cpl = a .cpl; address = a .address }) (sym (c .before .before .before .before .read-refusal .ensures) ∙ c .before .before .before .if2 .left) (c .before .processor-at .result) (c .before .processor-at .ensures)
 

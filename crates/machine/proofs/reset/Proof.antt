@@ -1,11 +1,8 @@
-use mathlib.Core.Path.{_∙_, refl, sym, ap}
-use native.Mathlib.Nat.{suc-ne-zero}
-use borrow.Author.Tests.{not-true, not-false}
+use mathlib.Core.Path.{_∙_, refl, ap}
 use Rattle.model.specs.Calls as calls
-use Rattle.model.specs.Validity.{valid}
 use Rattle.model.specs.Execution.{viewOf, perform}
 use Rattle.model.specs.declared.Platform.{Platform}
-use Rattle.machine.proofs.Calls.{zeroedWith, doneWith, not-valid, outcome-refused, outcome-done, reset-refusal}
+use Rattle.machine.proofs.Calls.{zeroedWith, doneWith, outcome-invalid, outcome-done, reset-refusal}
 use borrow.Author.Needs.{needs}
 use Rattle.machine.proofs.reset.Statement.{statement}
 use Rattle.machine.proofs.reset.Tie as tie
@@ -18,10 +15,7 @@ refused-requires c κs = search needs
 
 returns : tie.Need-returns
 returns c =
-    let m = c .before .before .before .args .m in
-    c .refused .ensures
-    ∙ outcome-refused m calls.reset 1 (suc-ne-zero 0)
-    (not-valid m calls.reset (sym (c .before .before .valid .ensures) ∙ not-true (c .before .before .valid .result) (c .before .if1 .taken)))
+    c .refused .ensures ∙ outcome-invalid (c .before .before .before .args .m) calls.reset (c .before .before .valid .ensures) (c .before .if1 .taken)
 
 zero-platform-requires : tie.Need-zero-platform-requires
 zero-platform-requires c κs = search needs
@@ -36,10 +30,9 @@ returns-2 : tie.Need-returns-2
 unfolding perform
 returns-2 c =
     let m = c .before .before .before .before .before .args .m in
-    let v = sym (c .before .before .before .before .valid .ensures) ∙ not-false (c .before .before .before .before .valid .result) (c .before .before .before .if1 .left) in
     c .done .ensures
     ∙ ap doneWith (c .before .zeroed .ensures ∙ ap (λ (f : Platform). zeroedWith (m .count) (m .features) f) (c .before .before .zero-platform .ensures))
-    ∙ outcome-done m calls.reset _ v (reset-refusal (viewOf m)) refl
+    ∙ outcome-done m calls.reset (c .before .before .before .before .valid .ensures) (c .before .before .before .if1 .left) _ (reset-refusal (viewOf m)) refl
 
 pub reset-spec : {M : Type 1} → statement M
 reset-spec =

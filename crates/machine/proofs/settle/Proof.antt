@@ -1,13 +1,8 @@
-use mathlib.Core.Path.{_∙_, refl, sym, ap}
-use native.Mathlib.Nat.{suc-ne-zero}
-use borrow.Author.Tests.{not-true, not-false, le-leb, lt-leb}
-use Rattle.bits.proofs.Choice.{cond-on, cond-off}
-use Rattle.model.specs.Calls as calls
+use mathlib.Core.Path.{_∙_, refl, ap}
 use Rattle.model.specs.Records.{withPlatform}
-use Rattle.model.specs.Validity.{valid}
 use Rattle.model.specs.Execution.{viewOf, perform}
 use Rattle.model.specs.declared.Platform.{Platform}
-use Rattle.machine.proofs.Calls.{doneWith, not-valid, stopped, outcome-refused, outcome-done, settle-refusal}
+use Rattle.machine.proofs.Calls.{doneWith, outcome-invalid, code-refused, code-done, settling, settle-refusal}
 use borrow.Author.Needs.{needs}
 use Rattle.machine.proofs.settle.Statement.{statement}
 use Rattle.machine.proofs.settle.Tie as tie
@@ -20,23 +15,17 @@ refused-requires c κs = search needs
 
 returns : tie.Need-returns
 returns c =
-    let m = c .before .before .before .args .m in
-    let code = c .before .before .before .args .code in
-    c .refused .ensures
-    ∙ outcome-refused m (calls.settle (record { code = code })) 1 (suc-ne-zero 0)
-    (not-valid m (calls.settle (record { code = code })) (sym (c .before .before .valid .ensures) ∙ not-true (c .before .before .valid .result) (c .before .if1 .taken)))
+    let a = c .before .before .before .args in
+    c .refused .ensures ∙ outcome-invalid (a .m) (settling (a .code)) (c .before .before .valid .ensures) (c .before .if1 .taken)
 
 refused-requires-2 : tie.Need-refused-requires-2
 refused-requires-2 c κs = search needs
 
 returns-2 : tie.Need-returns-2
 returns-2 c =
-    let m = c .before .before .before .before .args .m in
-    let code = c .before .before .before .before .args .code in
-    let v = sym (c .before .before .before .valid .ensures) ∙ not-false (c .before .before .before .valid .result) (c .before .before .if1 .left) in
+    let a = c .before .before .before .before .args in
     c .refused2 .ensures
-    ∙ outcome-refused m (calls.settle (record { code = code })) 2 (suc-ne-zero 1)
-    (stopped m (calls.settle (record { code = code })) v 2 (settle-refusal (viewOf m) code ∙ cond-on (le-leb 2 code (c .before .if2 .taken)) 2 0) (suc-ne-zero 1))
+    ∙ code-refused (a .m) (settling (a .code)) (c .before .before .before .valid .ensures) (c .before .before .if1 .left) 2 (a .code) (settle-refusal (viewOf (a .m)) (a .code)) (c .before .if2 .taken)
 
 settle-requires : tie.Need-settle-requires
 settle-requires c κs = search needs
@@ -47,12 +36,10 @@ done-requires c κs = search needs
 returns-3 : tie.Need-returns-3
 unfolding perform
 returns-3 c =
-    let m = c .before .before .before .before .before .before .args .m in
-    let code = c .before .before .before .before .before .before .args .code in
-    let v = sym (c .before .before .before .before .before .valid .ensures) ∙ not-false (c .before .before .before .before .before .valid .result) (c .before .before .before .before .if1 .left) in
+    let a = c .before .before .before .before .before .before .args in
     c .done .ensures
-    ∙ ap (λ (f : Platform). doneWith (withPlatform f m)) (c .before .settle .ensures)
-    ∙ outcome-done m (calls.settle (record { code = code })) _ v (settle-refusal (viewOf m) code ∙ cond-off (lt-leb 2 code (c .before .before .before .if2 .left)) 2 0) refl
+    ∙ ap (λ (f : Platform). doneWith (withPlatform f (a .m))) (c .before .settle .ensures)
+    ∙ code-done (a .m) (settling (a .code)) (c .before .before .before .before .before .valid .ensures) (c .before .before .before .before .if1 .left) 2 (a .code) (settle-refusal (viewOf (a .m)) (a .code)) _ (c .before .before .before .if2 .left) refl
 
 pub settle-spec : {M : Type 1} → statement M
 settle-spec =

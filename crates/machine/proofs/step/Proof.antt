@@ -1,9 +1,8 @@
-use mathlib.Core.Path.{_∙_, refl, sym, subst}
+use mathlib.Core.Path.{_∙_, sym, subst}
 use mathlib.Core.List.{List}
 use Prim.Native.Nat.{ℕ, _+_, _≤_}
 use native.Mathlib.Nat.{suc-ne-zero}
 use lib.ListN.{length}
-use borrow.Author.Tests.{not-true, not-false}
 use Rattle.isa.specs.Ranges.{handleLength}
 use Rattle.loadiwkey.specs.Form.{randomData, executedOf}
 use Rattle.model.specs.Calls.{StepCall}
@@ -12,7 +11,7 @@ use Rattle.model.specs.Execution.{viewOf}
 use Rattle.model.specs.Forms.{handleAddress}
 use Rattle.model.proofs.Demand3.{handle-fits}
 use Rattle.model.proofs.Refusals.{cpu-length, random-length}
-use Rattle.machine.proofs.Calls.{not-valid, stopped}
+use Rattle.machine.proofs.Calls.{not-valid, stopped, found-valid, found-not}
 use Rattle.machine.proofs.Steps.{step-told, step-done, step-refused, executed-as}
 use borrow.Author.Needs.{needs}
 use Rattle.machine.proofs.step.Statement.{statement}
@@ -30,7 +29,7 @@ returns c =
     let s : StepCall = record { processor = a .processor; cpu = a .cpu .now; memory = a .memory .now; random = a .random .now; string = a .string .now } in
     c .refused-step .ensures
     ∙ step-refused (a .m) s 1 (suc-ne-zero 0)
-    (not-valid (a .m) (calls.step s) (sym (c .before .before .valid .ensures) ∙ not-true (c .before .before .valid .result) (c .before .if1 .taken)))
+    (not-valid (a .m) (calls.step s) (found-not (a .m) (c .before .before .valid .ensures) (c .before .if1 .taken)))
 
 decode-requires : tie.Need-decode-requires
 decode-requires c κs = search needs
@@ -45,7 +44,7 @@ returns-2 : tie.Need-returns-2
 returns-2 c =
     let a = c .before .before .before .before .before .before .before .before .before .before .args in
     let s : StepCall = record { processor = a .processor; cpu = a .cpu .now; memory = a .memory .now; random = a .random .now; string = a .string .now } in
-    let v = sym (c .before .before .before .before .before .valid .ensures) ∙ not-false (c .before .before .before .before .before .valid .result) (c .before .before .before .before .if1 .left) in
+    let v = found-valid (a .m) (c .before .before .before .before .before .valid .ensures) (c .before .before .before .before .if1 .left) in
     let n = c .before .before .step-refusal .result in
     let e = step-told (viewOf (a .m)) s _ _ (c .before .before .step-refusal .ensures) (c .before .before .before .decode .ensures) in
     c .refused-step2 .ensures
@@ -82,7 +81,7 @@ returns-3 : tie.Need-returns-3
 returns-3 c =
     let a = c .before .before .before .before .before .before .before .before .before .before .before .before .before .before .before .args in
     let s : StepCall = record { processor = a .processor; cpu = a .cpu .now; memory = a .memory .now; random = a .random .now; string = a .string .now } in
-    let v = sym (c .before .before .before .before .before .before .before .before .before .before .valid .ensures) ∙ not-false (c .before .before .before .before .before .before .before .before .before .before .valid .result) (c .before .before .before .before .before .before .before .before .before .if1 .left) in
+    let v = found-valid (a .m) (c .before .before .before .before .before .before .before .before .before .before .valid .ensures) (c .before .before .before .before .before .before .before .before .before .if1 .left) in
     let accepted = sym (step-told (viewOf (a .m)) s _ _ (c .before .before .before .before .before .before .before .step-refusal .ensures) (c .before .before .before .before .before .before .before .before .decode .ensures)) ∙ c .before .before .before .before .before .before .if2 .left in
     let e = c .before .before .before .before .before .processor-at .result in
     c .done-step .ensures

@@ -1,10 +1,8 @@
 use mathlib.Core.Path.{_∙_, sym, ap}
-use native.Mathlib.Nat.{suc-ne-zero}
-use borrow.Author.Tests.{not-true, not-false}
 use Rattle.model.specs.Calls as calls
 use Rattle.model.specs.Records.{withPlatform}
 use Rattle.model.specs.declared.Machine.{Machine}
-use Rattle.machine.proofs.Calls.{doneWith, not-valid, stopped, outcome-refused}
+use Rattle.machine.proofs.Calls.{found-valid, doneWith, outcome-invalid, outcome-refused}
 use Rattle.machine.proofs.Steps.{write-done}
 use Rattle.platform.specs.Form.{copiedOf}
 use borrow.Author.Needs.{needs}
@@ -20,10 +18,8 @@ refused-requires c κs = search needs
 returns : tie.Need-returns
 returns c =
     let a = c .before .before .before .args in
-    let m = a .m in
     c .refused .ensures
-    ∙ outcome-refused m (calls.write (record { processor = a .processor; cpl = a .cpl; address = a .address; value = a .value })) 1 (suc-ne-zero 0)
-    (not-valid m (calls.write (record { processor = a .processor; cpl = a .cpl; address = a .address; value = a .value })) (sym (c .before .before .valid .ensures) ∙ not-true (c .before .before .valid .result) (c .before .if1 .taken)))
+    ∙ outcome-invalid (a .m) (calls.write (record { processor = a .processor; cpl = a .cpl; address = a .address; value = a .value })) (c .before .before .valid .ensures) (c .before .if1 .taken)
 
 write-refusal-requires : tie.Need-write-refusal-requires
 write-refusal-requires c κs = search needs
@@ -34,11 +30,9 @@ refused-requires-2 c κs = search needs
 returns-2 : tie.Need-returns-2
 returns-2 c =
     let a = c .before .before .before .before .before .args in
-    let m = a .m in
-    let v = sym (c .before .before .before .before .valid .ensures) ∙ not-false (c .before .before .before .before .valid .result) (c .before .before .before .if1 .left) in
-    let n = c .before .before .write-refusal .result in
     c .refused2 .ensures
-    ∙ outcome-refused m (calls.write (record { processor = a .processor; cpl = a .cpl; address = a .address; value = a .value })) n (c .before .if2 .taken) (stopped m (calls.write (record { processor = a .processor; cpl = a .cpl; address = a .address; value = a .value })) v n (sym (c .before .before .write-refusal .ensures)) (c .before .if2 .taken))
+    ∙ outcome-refused (a .m) (calls.write (record { processor = a .processor; cpl = a .cpl; address = a .address; value = a .value })) (c .before .before .before .before .valid .ensures) (c .before .before .before .if1 .left) (c .before .before .write-refusal .result)
+    (c .before .before .write-refusal .ensures) (c .before .if2 .taken)
 
 processor-at-requires : tie.Need-processor-at-requires
 processor-at-requires c κs = search needs
@@ -56,7 +50,7 @@ returns-3 : tie.Need-returns-3
 returns-3 c =
     let a = c .before .before .before .before .before .before .before .before .before .before .before .args in
     let m = a .m in
-    let v = sym (c .before .before .before .before .before .before .before .before .before .before .valid .ensures) ∙ not-false (c .before .before .before .before .before .before .before .before .before .before .valid .result) (c .before .before .before .before .before .before .before .before .before .if1 .left) in
+    let v = found-valid m (c .before .before .before .before .before .before .before .before .before .before .valid .ensures) (c .before .before .before .before .before .before .before .before .before .if1 .left) in
     let x = copiedOf (c .before .before .before .before .write-register .result) in
     c .done .ensures
     ∙ ap (λ (n : Machine). doneWith (withPlatform (x .platform) n)) (c .before .with-processor .ensures)
