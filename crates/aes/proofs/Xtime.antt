@@ -10,7 +10,7 @@ use lib.Dec.{lit<}
 use Rattle.bits.specs.Words.{leBytes}
 use Rattle.bits.proofs.Lists.{cons}
 use Rattle.bits.specs.Polynomials.{multiplyBits}
-use Rattle.fips197.specs.Field.{xtime, multiply}
+use Rattle.fips197.specs.Field.{xtime}
 use Rattle.aes.specs.Columns.{scaled}
 
 -- the word of n bytes m

@@ -1,6 +1,6 @@
 // What Cipher, of FIPS 197 section 5.1, has beside MixColumns.
 ghost use mathlib.Core.Path.{_≡_};
-ghost use Prim.Native.Nat.{ℕ, _≤_};
+ghost use Prim.Native.Nat.{_≤_};
 ghost use Rattle.bits.specs.Words.{leWords};
 ghost use Rattle.fips197.specs.Sbox.{SboxTable};
 ghost use Rattle.fips197.specs.Cipher.{subBytes, shiftRows, addRoundKey, finalRound};

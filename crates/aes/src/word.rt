@@ -1,11 +1,10 @@
 // Words of four bytes and blocks of four words: loads, stores, rotation and the S-box.
 ghost use mathlib.Core.Path.{_≡_};
 ghost use mathlib.Core.List.{[], _∷_, _++_};
-ghost use Prim.Native.Nat.{ℕ, _+_, _≤_, _<_};
+ghost use Prim.Native.Nat.{_+_, _≤_, _<_};
 ghost use lib.ListN.{length, getD, take, drop};
 ghost use lib.Seq.{sets};
 ghost use Rattle.bits.specs.Words.{leBytes};
-ghost use Rattle.fips197.specs.Cipher.{addRoundKey};
 ghost use Rattle.fips197.specs.KeyExpansion.{rotWord};
 ghost use Rattle.aes.specs.Columns.{diagonal};
 ghost use Rattle.aes.specs.Form.{bytesOf};

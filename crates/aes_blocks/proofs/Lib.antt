@@ -1,2 +1,3 @@
 pub mod Columns
 pub mod Equivalent
+pub mod Loops

@@ -1,6 +1,6 @@
 // Blocks under one key schedule, by a table of mixed columns.
 ghost use mathlib.Core.Path.{_≡_};
-ghost use Prim.Native.Nat.{ℕ, _*_, _/_, _≤_};
+ghost use Prim.Native.Nat.{_*_, _/_, _≤_};
 ghost use lib.ListN.{length};
 ghost use Rattle.bits.specs.Blocks.{mapBlocks};
 ghost use Rattle.bits.specs.Words.{leWords};

@@ -1,7 +1,6 @@
 // The product's AES with its tables made for each call, and the same for C callers, which bench/ measures: a `size` of 0 is AES-128, any other AES-256.
 ghost use mathlib.Core.Path.{_≡_};
-ghost use mathlib.Core.List.{List};
-ghost use Prim.Native.Nat.{ℕ, _/_, _*_};
+ghost use Prim.Native.Nat.{_/_, _*_};
 ghost use lib.ListN.{length, take};
 ghost use Rattle.bits.specs.Blocks.{mapBlocks};
 ghost use Rattle.bits.specs.Words.{leWords};

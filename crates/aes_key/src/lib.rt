@@ -2,7 +2,7 @@
 ghost use mathlib.Core.Path.{_≡_};
 ghost use mathlib.Core.List.{_++_};
 ghost use lib.ListN.{take, drop, replicate};
-ghost use Prim.Native.Nat.{ℕ, _+_, _*_, _/_, _%_, _≤_, _<_};
+ghost use Prim.Native.Nat.{_+_, _*_, _/_, _%_, _≤_, _<_};
 ghost use Rattle.bits.specs.Words.{leBytes, leWords};
 ghost use Rattle.fips197.specs.Sbox.{SboxTable};
 ghost use Rattle.fips197.specs.KeyExpansion.{power, subWord, nextWord};

@@ -25,7 +25,8 @@ use Rattle.fips197.specs.declared.KeySize.{KeySize}
 use Rattle.fips197.specs.declared.KeySize.the-variants.{Aes128, Aes256}
 use Rattle.keywrap.specs.Form.{wholeKey, handleBytes, padded, paddedKey}
 use Rattle.keywrap.specs.declared.Handle.{Handle}
-use Rattle.model.specs.Instructions.{typeOf, forbids, illegal, openedFor}
+use Rattle.model.specs.Cpu.{withZf, mapXmm}
+use Rattle.model.specs.Instructions.{typeOf, aes, forbids, illegal, openedFor, ciphered}
 use Rattle.model.specs.declared.IwKey.{IwKey}
 
 -- ---- the AAD
@@ -109,11 +110,11 @@ module _ (k : IwKey) (cpl : ℕ) (size : KeySize) (direction : Direction) (h : H
   abbrev bytes : List ℕ
   bytes = handleBytes size h
 
-  pub not-opened : illegal cpl size direction (bytesOf (h .aad)) ≡ true → openedFor k cpl size direction bytes ≡ none
+  not-opened : illegal cpl size direction (bytesOf (h .aad)) ≡ true → openedFor k cpl size direction bytes ≡ none
   unfolding openedFor
   not-opened e = cond-on e none (unwrapKey (k .integrity) (k .encryption) bytes)
 
-  pub unwrapped : illegal cpl size direction (bytesOf (h .aad)) ≡ false
+  unwrapped : illegal cpl size direction (bytesOf (h .aad)) ≡ false
       → unwrapKey (k .integrity) (k .encryption) bytes ≡ openedFor k cpl size direction bytes
   unfolding openedFor
   unwrapped e = sym (cond-off e none (unwrapKey (k .integrity) (k .encryption) bytes))
@@ -143,7 +144,7 @@ module _ (k : IwKey) (cpl : ℕ) (size : KeySize) (direction : Direction) (h : H
       exact Aes256 = refl
 
   -- the key in an answer's struct
-  pub opened-key : (key : Key) → _≡_ {A = Option (List ℕ)} (some (wholeKey key)) (paddedKey (openedFor k cpl size direction bytes))
+  opened-key : (key : Key) → _≡_ {A = Option (List ℕ)} (some (wholeKey key)) (paddedKey (openedFor k cpl size direction bytes))
       → openedFor k cpl size direction bytes ≡ some (keyBytes size key)
   opened-key key e = go (openedFor k cpl size direction bytes) refl e
     where
@@ -153,10 +154,30 @@ module _ (k : IwKey) (cpl : ℕ) (size : KeySize) (direction : Direction) (h : H
       go (some x) q e =
           ap {B = Option (List ℕ)} some (sym (key-told size key x (Option·some-injective (wholeKey key) (padded 32 x) e) (key-length x q)))
 
-  pub opened-none : _≡_ {A = Option (List ℕ)} none (paddedKey (openedFor k cpl size direction bytes))
+  opened-none : _≡_ {A = Option (List ℕ)} none (paddedKey (openedFor k cpl size direction bytes))
       → _≡_ {A = Option (List ℕ)} (openedFor k cpl size direction bytes) none
   opened-none e = go (openedFor k cpl size direction bytes) e
     where
       go : (o : Option (List ℕ)) → _≡_ {A = Option (List ℕ)} none (paddedKey o) → _≡_ {A = Option (List ℕ)} o none
       go none e = refl
       go (some x) e = absurd (Option·none-ne-some (padded 32 x) e)
+
+  -- ---- a use, by what its handle gave
+
+  module _ (blocks cpu : List ℕ) where
+    abbrev after : List ℕ
+    after = ciphered direction size blocks (openedFor k cpl size direction bytes) cpu
+
+    pub illegal-used : illegal cpl size direction (bytesOf (h .aad)) ≡ true → withZf 1 cpu ≡ after
+    illegal-used e = ap (λ (o : Option (List ℕ)). ciphered direction size blocks o cpu) (sym (not-opened e))
+
+    pub none-used : illegal cpl size direction (bytesOf (h .aad)) ≡ false
+        → _≡_ {A = Option (List ℕ)} none (paddedKey (unwrapKey (k .integrity) (k .encryption) bytes)) → withZf 1 cpu ≡ after
+    none-used e o =
+        ap (λ (o : Option (List ℕ)). ciphered direction size blocks o cpu) (sym (opened-none (o ∙ ap paddedKey (unwrapped e))))
+
+    pub key-used : (key : Key) → illegal cpl size direction (bytesOf (h .aad)) ≡ false
+        → _≡_ {A = Option (List ℕ)} (some (wholeKey key)) (paddedKey (unwrapKey (k .integrity) (k .encryption) bytes))
+        → withZf 0 (mapXmm (aes direction size (keyBytes size key)) blocks cpu) ≡ after
+    key-used key e o =
+        ap (λ (o : Option (List ℕ)). ciphered direction size blocks o cpu) (sym (opened-key key (o ∙ ap paddedKey (unwrapped e))))

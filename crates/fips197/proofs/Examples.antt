@@ -1,17 +1,15 @@
 -- FIPS 197 appendix C.1 and C.3: the definitions give the document's example vectors.
 -- Assumes nothing.
-use mathlib.Core.Path.{_≡_, refl, sym, ap, _∙_}
+use mathlib.Core.Path.{_≡_}
 use mathlib.Core.List.{List, [], _∷_}
 use Prim.Native.Nat.{ℕ}
-use native.Mathlib.Omega.{arith}
 use Rattle.bits.proofs.Lists.{alike-eq}
 use Rattle.bits.specs.Polynomials.{multiplyBits}
 use Rattle.fips197.specs.Field.{xtime}
 use Rattle.fips197.specs.Sbox.{square, next, inverse, bit, fromBits, affine, sbox}
 use Rattle.fips197.specs.Cipher.{subBytes, shiftRows, matrixRow, mixBy, mixColumns, addRoundKey, round, finalRound, rounds, cipher}
 use Rattle.fips197.specs.KeyExpansion.{wordAt, roundKey, addWords, subWord, rotWord, power, rcon, transformed, nextWord, expanded, keyExpansion}
-use Rattle.fips197.specs.Aes.{encrypt, decrypt}
-use Rattle.fips197.proofs.Undo.{decrypt-encrypt}
+use Rattle.fips197.specs.Aes.{encrypt}
 
 -- encrypt, with all that it computes by
 computed : ℕ → List ℕ → List ℕ → List ℕ
@@ -20,35 +18,29 @@ unfolding encrypt cipher rounds finalRound round addRoundKey mixColumns mixBy ma
     xtime multiplyBits square next inverse bit fromBits affine sbox
 computed nk key b = encrypt nk key b
 
-abbrev plaintext : List ℕ
+abbrev pub plaintext : List ℕ
 plaintext = 0x00 ∷ 0x11 ∷ 0x22 ∷ 0x33 ∷ 0x44 ∷ 0x55 ∷ 0x66 ∷ 0x77 ∷ 0x88 ∷ 0x99 ∷ 0xaa ∷ 0xbb ∷ 0xcc ∷ 0xdd ∷ 0xee ∷ 0xff ∷ []
 
 -- C.1: AES-128
-abbrev key-128 : List ℕ
+abbrev pub key-128 : List ℕ
 key-128 = 0x00 ∷ 0x01 ∷ 0x02 ∷ 0x03 ∷ 0x04 ∷ 0x05 ∷ 0x06 ∷ 0x07 ∷ 0x08 ∷ 0x09 ∷ 0x0a ∷ 0x0b ∷ 0x0c ∷ 0x0d ∷ 0x0e ∷ 0x0f ∷ []
 
-abbrev ciphertext-128 : List ℕ
+abbrev pub ciphertext-128 : List ℕ
 ciphertext-128 = 0x69 ∷ 0xc4 ∷ 0xe0 ∷ 0xd8 ∷ 0x6a ∷ 0x7b ∷ 0x04 ∷ 0x30 ∷ 0xd8 ∷ 0xcd ∷ 0xb7 ∷ 0x80 ∷ 0x70 ∷ 0xb4 ∷ 0xc5 ∷ 0x5a ∷ []
 
 pub encrypt-128 : encrypt 4 key-128 plaintext ≡ ciphertext-128
 unfolding computed
 encrypt-128 = alike-eq (computed 4 key-128 plaintext) ciphertext-128 tt
 
-pub decrypt-128 : decrypt 4 key-128 ciphertext-128 ≡ plaintext
-decrypt-128 = ap (decrypt 4 key-128) (sym encrypt-128) ∙ decrypt-encrypt 4 key-128 plaintext (omega arith) (omega arith) refl
-
 -- C.3: AES-256
-abbrev key-256 : List ℕ
+abbrev pub key-256 : List ℕ
 key-256 =
     0x00 ∷ 0x01 ∷ 0x02 ∷ 0x03 ∷ 0x04 ∷ 0x05 ∷ 0x06 ∷ 0x07 ∷ 0x08 ∷ 0x09 ∷ 0x0a ∷ 0x0b ∷ 0x0c ∷ 0x0d ∷ 0x0e ∷ 0x0f
     ∷ 0x10 ∷ 0x11 ∷ 0x12 ∷ 0x13 ∷ 0x14 ∷ 0x15 ∷ 0x16 ∷ 0x17 ∷ 0x18 ∷ 0x19 ∷ 0x1a ∷ 0x1b ∷ 0x1c ∷ 0x1d ∷ 0x1e ∷ 0x1f ∷ []
 
-abbrev ciphertext-256 : List ℕ
+abbrev pub ciphertext-256 : List ℕ
 ciphertext-256 = 0x8e ∷ 0xa2 ∷ 0xb7 ∷ 0xca ∷ 0x51 ∷ 0x67 ∷ 0x45 ∷ 0xbf ∷ 0xea ∷ 0xfc ∷ 0x49 ∷ 0x90 ∷ 0x4b ∷ 0x49 ∷ 0x60 ∷ 0x89 ∷ []
 
 pub encrypt-256 : encrypt 8 key-256 plaintext ≡ ciphertext-256
 unfolding computed
 encrypt-256 = alike-eq (computed 8 key-256 plaintext) ciphertext-256 tt
-
-pub decrypt-256 : decrypt 8 key-256 ciphertext-256 ≡ plaintext
-decrypt-256 = ap (decrypt 8 key-256) (sym encrypt-256) ∙ decrypt-encrypt 8 key-256 plaintext (omega arith) (omega arith) refl

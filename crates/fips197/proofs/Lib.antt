@@ -1,3 +1,4 @@
+pub mod Examples
 pub mod Field
 pub mod Sbox
 pub mod State
@@ -7,4 +8,4 @@ pub mod Steps
 pub mod Equivalent
 pub mod Schedule
 pub mod Undo
-pub mod Examples
+pub mod Deciphered

@@ -1,8 +1,7 @@
--- Intel 343965-001US chapter 6, footnote: the definitions give the printed handle, of an all-zero key under an all-zero IWKey, and it opens.
+-- Intel 343965-001US chapter 6, footnote: the definitions give the printed handle, of an all-zero key under an all-zero IWKey.
 -- Assumes nothing.
-use mathlib.Core.Path.{_≡_, refl, sym, ap, _∙_}
+use mathlib.Core.Path.{_≡_}
 use mathlib.Core.List.{List, [], _∷_, flatMap}
-use mathlib.Core.Option.{some}
 use Prim.Native.Nat.{ℕ}
 use lib.ListN.{replicate}
 use Rattle.bits.specs.Polynomials.{multiplyBits}
@@ -15,9 +14,7 @@ use Rattle.fips197.specs.Aes.{encrypt}
 use Rattle.rfc8452.specs.Field.{timesX, dot}
 use Rattle.rfc8452.specs.Polyval.{polyval}
 use Rattle.handle.specs.Format.{aad}
-use Rattle.handle.specs.Wrap.{lengthBlock, hashed, clearTop, setTop, tag, counterBlock, keystream, wrapKey, unwrapKey}
-use Rattle.handle.proofs.Aad.{aad-length}
-use Rattle.handle.proofs.Wrap.{unwrap-wrap}
+use Rattle.handle.specs.Wrap.{lengthBlock, hashed, clearTop, setTop, tag, counterBlock, keystream, wrapKey}
 
 -- wrapKey under an all-zero IWKey, with all that it computes by
 computed : List ℕ → List ℕ → List ℕ
@@ -28,7 +25,7 @@ unfolding wrapKey keystream flatMap counterBlock tag setTop clearTop hashed leng
 computed a key = wrapKey (replicate 16 0) (replicate 32 0) a key
 
 -- AAD, tag and ciphertext; the footnote prints the last two as numbers, highest byte first
-abbrev handle-6 : List ℕ
+abbrev pub handle-6 : List ℕ
 handle-6 =
     0x00 ∷ 0x00 ∷ 0x00 ∷ 0x00 ∷ 0x00 ∷ 0x00 ∷ 0x00 ∷ 0x00 ∷ 0x00 ∷ 0x00 ∷ 0x00 ∷ 0x00 ∷ 0x00 ∷ 0x00 ∷ 0x00 ∷ 0x00
     ∷ 0xdc ∷ 0x95 ∷ 0xc0 ∷ 0x78 ∷ 0xa2 ∷ 0x40 ∷ 0x89 ∷ 0x89 ∷ 0xad ∷ 0x48 ∷ 0xa2 ∷ 0x14 ∷ 0x92 ∷ 0x84 ∷ 0x20 ∷ 0x87
@@ -37,8 +34,3 @@ handle-6 =
 pub chapter-6 : wrapKey (replicate 16 0) (replicate 32 0) (aad 0 0) (replicate 16 0) ≡ handle-6
 unfolding computed
 chapter-6 = alike-eq (computed (aad 0 0) (replicate 16 0)) handle-6 tt
-
-pub chapter-6-opens : unwrapKey (replicate 16 0) (replicate 32 0) handle-6 ≡ some (replicate 16 0)
-chapter-6-opens =
-    ap (unwrapKey (replicate 16 0) (replicate 32 0)) (sym chapter-6)
-    ∙ unwrap-wrap (replicate 16 0) (replicate 32 0) (aad 0 0) (replicate 16 0) 1 (aad-length 0 0) refl

@@ -1,5 +1,6 @@
+pub mod Examples
 pub mod Wrap
 pub mod Steps
 pub mod Integrity
 pub mod Aad
-pub mod Examples
+pub mod Opened

@@ -81,11 +81,11 @@ handle-ciphertext a t c h k = drop-at (a ++ t) c 32 (length-append a t ∙ omega
 
 pub wrap-aad : (i e aad key : List ℕ) → length aad ≡ 16 → aadOf (wrapKey i e aad key) ≡ aad
 unfolding wrapKey
-wrap-aad i e aad key h = let t = tag i e aad key in handle-aad aad t (masked e t key) h
+wrap-aad i e aad key h = handle-aad aad _ _ h
 
 pub wrap-tag : (i e aad key : List ℕ) → length aad ≡ 16 → tagOf (wrapKey i e aad key) ≡ tag i e aad key
 unfolding wrapKey
-wrap-tag i e aad key h = let t = tag i e aad key in handle-tag aad t (masked e t key) h (tag-length i e aad key)
+wrap-tag i e aad key h = handle-tag aad (tag i e aad key) _ h (tag-length i e aad key)
 
 pub wrap-ciphertext : (i e aad key : List ℕ) → length aad ≡ 16
     → ciphertextOf (wrapKey i e aad key) ≡ masked e (tag i e aad key) key

@@ -1,12 +1,12 @@
 -- Lists in parts of sixteen bytes: exclusive or, and filling up with zeros.
 -- Assumes nothing.
-use mathlib.Core.Path.{_≡_, refl, sym, ap, _∙_}
+use mathlib.Core.Path.{_≡_, refl, sym, ap, ap₂, _∙_}
 use mathlib.Core.List.{List, [], _∷_, _++_, append-nil, append-assoc}
 use Prim.Native.Nat.{ℕ, _+_, _≤_}
-use native.Mathlib.Nat.{suc-inj, suc-ne-zero, le-of-eq}
+use native.Mathlib.Nat.{suc-inj, suc-ne-zero}
 use native.Mathlib.Omega.{arith}
 use lib.ListN.{length, take, replicate, length-append}
-use lib.Seq.{take-all, take-at, take-take, take-append-add}
+use lib.Seq.{take-at, take-take, take-append-add}
 use Rattle.bits.specs.Bytes.{xorBytes}
 use Rattle.bits.proofs.Lists.{cons}
 use Rattle.bits.proofs.Xor.{xor-length}
@@ -19,22 +19,24 @@ xor-append [] (y ∷ m) k′ m′ h = absurd (suc-ne-zero _ (sym h))
 xor-append (x ∷ k) [] k′ m′ h = absurd (suc-ne-zero _ h)
 xor-append (x ∷ k) (y ∷ m) k′ m′ h = cons refl (xor-append k m k′ m′ (suc-inj h))
 
--- a list of one block or two in room for two
-pad-one : (l : List ℕ) → length l ≡ 16 → l ++ replicate 16 0 ≡ padded 32 l
-pad-one l h = sym (take-all 32 (l ++ replicate 16 0) (le-of-eq (length-append l (replicate 16 0) ∙ omega arith)))
-
-pub mask-one : (k m : List ℕ) → length k ≡ 16 → length m ≡ 16 → xorBytes k m ++ replicate 16 0 ≡ padded 32 (xorBytes k (m ++ []))
-mask-one k m h l =
-    pad-one (xorBytes k m) (xor-length k m (omega arith) ∙ h) ∙ ap (λ (n : List ℕ). padded 32 (xorBytes k n)) (sym (append-nil m))
-
-pub mask-two : (k k′ m m′ : List ℕ) → length k ≡ 16 → length k′ ≡ 16 → length m ≡ 16 → length m′ ≡ 16
-    → xorBytes k m ++ xorBytes k′ m′ ≡ padded 32 (xorBytes (k ++ k′) (m ++ (m′ ++ [])))
-mask-two k k′ m m′ h h′ l l′ =
+-- a block and what follows it, if anything, in room for two blocks
+pub mask-blocks : (k m ks ms rest : List ℕ) → length k ≡ 16 → length m ≡ 16 → rest ≡ take 16 (xorBytes ks ms ++ replicate 16 0)
+    → xorBytes k m ++ rest ≡ padded 32 (xorBytes (k ++ ks) (m ++ ms))
+mask-blocks k m ks ms rest h l e =
     let x = xorBytes k m in
-    let y = xorBytes k′ m′ in
-    let size : length (x ++ y) ≡ 32 = length-append x y ∙ omega (arith, xor-length k m (omega arith), xor-length k′ m′ (omega arith)) in
-    sym (take-at (x ++ y) (replicate 16 0) 32 size)
-    ∙ ap (padded 32) (sym (xor-append k m k′ m′ (h ∙ sym l)) ∙ ap (λ (n : List ℕ). xorBytes (k ++ k′) (m ++ n)) (sym (append-nil m′)))
+    let y = xorBytes ks ms in
+    let z : List ℕ = replicate 16 0 in
+    let size : length x + 16 ≡ 32 = omega (arith, xor-length k m (omega arith)) in
+    ap (λ (t : List ℕ). x ++ t) e
+    ∙ sym (take-append-add x (y ++ z) 16)
+    ∙ ap₂ (λ (n : ℕ) (t : List ℕ). take n t) size (sym (append-assoc x y z))
+    ∙ ap (padded 32) (sym (xor-append k m ks ms (h ∙ sym l)))
+
+-- one block more
+pub last-block : (k m : List ℕ) → length k ≡ 16 → length m ≡ 16 → xorBytes k m ≡ take 16 (xorBytes k (m ++ []) ++ replicate 16 0)
+last-block k m h l =
+    sym (take-at (xorBytes k m) (replicate 16 0) 16 (xor-length k m (omega arith) ∙ h))
+    ∙ ap (λ (n : List ℕ). take 16 (xorBytes k n ++ replicate 16 0)) (sym (append-nil m))
 
 -- what was filled up, taken back
 pub unpadded : (n : ℕ) (l : List ℕ) → length l ≡ n → n ≤ 32 → take n (padded 32 l) ≡ l

@@ -5,7 +5,6 @@ ghost use Prim.Native.Nat.{_/_};
 ghost use lib.ListN.{length};
 ghost use Rattle.bits.specs.Blocks.{blocks};
 ghost use Rattle.bits.specs.Words.{leValue};
-ghost use Rattle.fips197.specs.Sizes.{nk};
 ghost use Rattle.aes.specs.Form.{bytesOf, keyBytes};
 ghost use Rattle.rfc8452.specs.Polyval.{polyvalFrom};
 ghost use Rattle.polyval.specs.Form.{num, first, MultiplesTable};

@@ -2,7 +2,7 @@
 use aes::Block;
 use aes::Key;
 
-pub mod hash;
+mod hash;
 pub mod siv;
 
 // A handle: for a key of 128 bits the high half of the ciphertext is not read.

@@ -1,7 +1,7 @@
 // Wrapping and unwrapping: tag and keystream by lent tables and the schedule of the encryption key.
 ghost use mathlib.Core.Path.{_≡_};
 ghost use mathlib.Core.List.{flatMap};
-ghost use Prim.Native.Nat.{ℕ, _/_};
+ghost use Prim.Native.Nat.{_/_};
 ghost use lib.ListN.{length};
 ghost use Rattle.bits.specs.Bytes.{xorBytes, alike};
 ghost use Rattle.fips197.specs.Cipher.{cipher};

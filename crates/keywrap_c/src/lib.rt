@@ -1,8 +1,7 @@
 // POLYVAL over the blocks of a slice, unwrapping with its tables made, and the same and wrapping for C callers, which bench/ measures. A `size` of 0 is AES-128, any other AES-256; of a key or handle for AES-128
 // the last 16 bytes are not read, and written as zeros.
 ghost use mathlib.Core.Path.{_≡_};
-ghost use mathlib.Core.List.{_++_};
-ghost use Prim.Native.Nat.{ℕ, _/_, _+_, _*_};
+ghost use Prim.Native.Nat.{_/_, _+_, _*_};
 ghost use lib.ListN.{length, take};
 ghost use Rattle.bits.specs.Blocks.{blocks};
 ghost use Rattle.rfc8452.specs.Polyval as rfc;

@@ -18,7 +18,7 @@ pub fn add(a: Element, b: Element) -> Element
 }
 
 // An element times x.
-pub fn times_x(e: Element) -> Element
+pub(crate) fn times_x(e: Element) -> Element
     ensures { λ r. ⌜ num r ≡ rfc.timesX (num e) ⌝ }
 {
     let top = e.hi >> 63;

@@ -11,7 +11,7 @@ pub struct Element {
 }
 
 // A product that is not yet reduced: w2 holds the coefficients from x^128 on.
-pub struct Wide {
+pub(crate) struct Wide {
     pub w0: u64,
     pub w1: u64,
     pub w2: u64,

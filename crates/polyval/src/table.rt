@@ -30,15 +30,15 @@ fn put_entry(multiples: &mut [u64; 32], u: usize, e: Element)
 pub fn multiples(h: Element) -> [u64; 32]
     ensures { λ r. ⌜ (first r ≡ num h) × MultiplesTable r ⌝ }
 {
-    let mut t = [0u64; 32];
-    t[2] = h.lo;
-    t[3] = h.hi;
+    let mut table = [0u64; 32];
+    table[2] = h.lo;
+    table[3] = h.hi;
     let mut i: usize = 1;
     while i < 8 {
-        let even = times_x(entry(&t, i as u64));
-        put_entry(&mut t, 2 * i, even);
-        put_entry(&mut t, 2 * i + 1, add(even, h));
+        let even = times_x(entry(&table, i as u64));
+        put_entry(&mut table, 2 * i, even);
+        put_entry(&mut table, 2 * i + 1, add(even, h));
         i += 1;
     }
-    t
+    table
 }

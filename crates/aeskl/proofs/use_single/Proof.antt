@@ -1,13 +1,12 @@
 use mathlib.Core.Path.{_≡_, _∙_, sym, ap}
 use mathlib.Core.List.{List, [], _∷_}
-use mathlib.Core.Option.{Option}
 use Prim.Native.Nat.{ℕ}
 use lib.ListN.{length}
 use Rattle.aes.specs.Form.{keyBytes}
-use Rattle.keywrap.specs.Form.{opened, paddedKey}
-use Rattle.model.specs.Cpu.{cpl, withXmm, withZf}
-use Rattle.model.specs.Instructions.{aes, ciphered}
-use Rattle.aeskl.proofs.Openings.{not-opened, unwrapped, opened-key, opened-none}
+use Rattle.keywrap.specs.Form.{opened}
+use Rattle.model.specs.Cpu.{withXmm, withZf}
+use Rattle.model.specs.Instructions.{aes}
+use Rattle.aeskl.proofs.Openings.{illegal-used, none-used, key-used}
 use borrow.Author.Needs.{needs}
 use Rattle.aeskl.proofs.use_single.Statement.{statement}
 use Rattle.aeskl.proofs.use_single.Tie as tie
@@ -21,11 +20,8 @@ failed-requires c κs = search needs
 returns : tie.Need-returns
 returns c =
     let a = c .before .before .before .before .args in
-    let cpu = a .t6 in
-    let refused = sym (c .before .before .illegal-at .ensures) ∙ c .before .if1 .taken in
     c .failed .ensures
-    ∙ ap (λ (x : Option (List ℕ)). ciphered (a .direction) (a .size) (a .block ∷ []) x cpu)
-    (sym (not-opened (a .k) (cpl cpu) (a .size) (a .direction) (a .h) refused))
+    ∙ illegal-used (a .k) _ (a .size) (a .direction) (a .h) (a .block ∷ []) (a .t6) (sym (c .before .before .illegal-at .ensures) ∙ c .before .if1 .taken)
 
 sized : (c : tie.Start) → length (c .args .t6) ≡ 408
 sized c = search needs
@@ -53,12 +49,9 @@ failed-requires-2 c κs = search needs
 returns-2 : tie.Need-returns-2
 returns-2 c =
     let a = c .before .before .before .before .before .before .before .before .before .before .before .before .before .args in
-    let cpu = a .t6 in
-    let legal = sym (c .before .before .before .before .before .before .before .before .before .before .before .illegal-at .ensures) ∙ c .before .before .before .before .before .before .before .before .before .before .if1 .left in
-    let none-given = sym (ap opened (c .before .enum-told .given .1)) ∙ c .before .before .before .unwrapped-by .ensures ∙ ap paddedKey (unwrapped (a .k) (cpl cpu) (a .size) (a .direction) (a .h) legal) in
     c .failed2 .ensures
-    ∙ ap (λ (x : Option (List ℕ)). ciphered (a .direction) (a .size) (a .block ∷ []) x cpu)
-    (sym (opened-none (a .k) (cpl cpu) (a .size) (a .direction) (a .h) none-given))
+    ∙ none-used (a .k) _ (a .size) (a .direction) (a .h) (a .block ∷ []) (a .t6) (sym (c .before .before .before .before .before .before .before .before .before .before .before .illegal-at .ensures) ∙ c .before .before .before .before .before .before .before .before .before .before .if1 .left)
+    (sym (ap opened (c .before .enum-told .given .1)) ∙ c .before .before .before .unwrapped-by .ensures)
 
 slice-aggregate-xmm : tie.Need-slice-aggregate-xmm
 slice-aggregate-xmm c = sym (sized (c .before .before .before .before .before .before .before .before .before .before .before .before .before .before .before .before))
@@ -77,15 +70,12 @@ done-single-requires c κs = search needs
 returns-3 : tie.Need-returns-3
 returns-3 c =
     let a = c .before .before .before .before .before .before .before .before .before .before .before .before .before .before .before .before .before .before .before .args in
-    let cpu = a .t6 in
     let key = c .before .before .before .before .before .before .before .key .given in
-    let legal = sym (c .before .before .before .before .before .before .before .before .before .before .before .before .before .before .before .before .before .illegal-at .ensures) ∙ c .before .before .before .before .before .before .before .before .before .before .before .before .before .before .before .before .if1 .left in
-    let key-given = sym (ap opened (key .1)) ∙ c .before .before .before .before .before .before .before .before .before .unwrapped-by .ensures ∙ ap paddedKey (unwrapped (a .k) (cpl cpu) (a .size) (a .direction) (a .h) legal) in
     c .done-single .ensures
-    ∙ ap (λ (b : List ℕ). withZf 0 (withXmm (a .block) b cpu))
+    ∙ ap (λ (b : List ℕ). withZf 0 (withXmm (a .block) b (a .t6)))
     (c .before .cipher-block .ensures ∙ ap (aes (a .direction) (a .size) (keyBytes (a .size) (key .0 .0))) (c .before .before .xmm .ensures))
-    ∙ ap (λ (x : Option (List ℕ)). ciphered (a .direction) (a .size) (a .block ∷ []) x cpu)
-    (sym (opened-key (a .k) (cpl cpu) (a .size) (a .direction) (a .h) (key .0 .0) key-given))
+    ∙ key-used (a .k) _ (a .size) (a .direction) (a .h) (a .block ∷ []) (a .t6) (key .0 .0) (sym (c .before .before .before .before .before .before .before .before .before .before .before .before .before .before .before .before .before .illegal-at .ensures) ∙ c .before .before .before .before .before .before .before .before .before .before .before .before .before .before .before .before .if1 .left)
+    (sym (ap opened (key .1)) ∙ c .before .before .before .before .before .before .before .before .before .unwrapped-by .ensures)
 
 pub use-single-spec : {M : Type 1} → statement M
 use-single-spec =

@@ -1,11 +1,7 @@
 use mathlib.Core.Path.{_∙_, sym, ap}
-use mathlib.Core.List.{List, [], _∷_}
-use mathlib.Core.Option.{Option}
-use Prim.Native.Nat.{ℕ}
-use Rattle.keywrap.specs.Form.{opened, paddedKey}
-use Rattle.model.specs.Cpu.{cpl}
-use Rattle.model.specs.Instructions.{ciphered}
-use Rattle.aeskl.proofs.Openings.{not-opened, unwrapped, opened-key, opened-none}
+use mathlib.Core.List.{[], _∷_}
+use Rattle.keywrap.specs.Form.{opened}
+use Rattle.aeskl.proofs.Openings.{illegal-used, none-used, key-used}
 use borrow.Author.Needs.{needs}
 use Rattle.aeskl.proofs.use_wide.Statement.{statement}
 use Rattle.aeskl.proofs.use_wide.Tie as tie
@@ -19,11 +15,8 @@ failed-requires c κs = search needs
 returns : tie.Need-returns
 returns c =
     let a = c .before .before .before .before .args in
-    let cpu = a .t5 in
-    let refused = sym (c .before .before .illegal-at .ensures) ∙ c .before .if1 .taken in
     c .failed .ensures
-    ∙ ap (λ (x : Option (List ℕ)). ciphered (a .direction) (a .size) (0 ∷ 1 ∷ 2 ∷ 3 ∷ 4 ∷ 5 ∷ 6 ∷ 7 ∷ []) x cpu)
-    (sym (not-opened (a .k) (cpl cpu) (a .size) (a .direction) (a .h) refused))
+    ∙ illegal-used (a .k) _ (a .size) (a .direction) (a .h) (0 ∷ 1 ∷ 2 ∷ 3 ∷ 4 ∷ 5 ∷ 6 ∷ 7 ∷ []) (a .t5) (sym (c .before .before .illegal-at .ensures) ∙ c .before .if1 .taken)
 
 sbox-table-requires : tie.Need-sbox-table-requires
 sbox-table-requires c κs = search needs
@@ -48,12 +41,9 @@ failed-requires-2 c κs = search needs
 returns-2 : tie.Need-returns-2
 returns-2 c =
     let a = c .before .before .before .before .before .before .before .before .before .before .before .before .before .args in
-    let cpu = a .t5 in
-    let legal = sym (c .before .before .before .before .before .before .before .before .before .before .before .illegal-at .ensures) ∙ c .before .before .before .before .before .before .before .before .before .before .if1 .left in
-    let none-given = sym (ap opened (c .before .enum-told .given .1)) ∙ c .before .before .before .unwrapped-by .ensures ∙ ap paddedKey (unwrapped (a .k) (cpl cpu) (a .size) (a .direction) (a .h) legal) in
     c .failed2 .ensures
-    ∙ ap (λ (x : Option (List ℕ)). ciphered (a .direction) (a .size) (0 ∷ 1 ∷ 2 ∷ 3 ∷ 4 ∷ 5 ∷ 6 ∷ 7 ∷ []) x cpu)
-    (sym (opened-none (a .k) (cpl cpu) (a .size) (a .direction) (a .h) none-given))
+    ∙ none-used (a .k) _ (a .size) (a .direction) (a .h) (0 ∷ 1 ∷ 2 ∷ 3 ∷ 4 ∷ 5 ∷ 6 ∷ 7 ∷ []) (a .t5) (sym (c .before .before .before .before .before .before .before .before .before .before .before .illegal-at .ensures) ∙ c .before .before .before .before .before .before .before .before .before .before .if1 .left)
+    (sym (ap opened (c .before .enum-told .given .1)) ∙ c .before .before .before .unwrapped-by .ensures)
 
 done-wide-requires : tie.Need-done-wide-requires
 done-wide-requires c κs =
@@ -63,13 +53,10 @@ done-wide-requires c κs =
 returns-3 : tie.Need-returns-3
 returns-3 c =
     let a = c .before .before .before .before .before .before .before .before .before .before .before .before .before .before .before .before .args in
-    let cpu = a .t5 in
     let key = c .before .before .before .before .key .given in
-    let legal = sym (c .before .before .before .before .before .before .before .before .before .before .before .before .before .before .illegal-at .ensures) ∙ c .before .before .before .before .before .before .before .before .before .before .before .before .before .if1 .left in
-    let key-given = sym (ap opened (key .1)) ∙ c .before .before .before .before .before .before .unwrapped-by .ensures ∙ ap paddedKey (unwrapped (a .k) (cpl cpu) (a .size) (a .direction) (a .h) legal) in
     c .done-wide .ensures
-    ∙ ap (λ (x : Option (List ℕ)). ciphered (a .direction) (a .size) (0 ∷ 1 ∷ 2 ∷ 3 ∷ 4 ∷ 5 ∷ 6 ∷ 7 ∷ []) x cpu)
-    (sym (opened-key (a .k) (cpl cpu) (a .size) (a .direction) (a .h) (key .0 .0) key-given))
+    ∙ key-used (a .k) _ (a .size) (a .direction) (a .h) (0 ∷ 1 ∷ 2 ∷ 3 ∷ 4 ∷ 5 ∷ 6 ∷ 7 ∷ []) (a .t5) (key .0 .0) (sym (c .before .before .before .before .before .before .before .before .before .before .before .before .before .before .illegal-at .ensures) ∙ c .before .before .before .before .before .before .before .before .before .before .before .before .before .if1 .left)
+    (sym (ap opened (key .1)) ∙ c .before .before .before .before .before .before .unwrapped-by .ensures)
 
 pub use-wide-spec : {M : Type 1} → statement M
 use-wide-spec =

@@ -1,5 +1,5 @@
 use mathlib.Core.Path.{refl, ap, _∙_}
-use Prim.Native.Nat.{ℕ, _/_, _%_}
+use Prim.Native.Nat.{_/_, _%_}
 use native.Mathlib.Omega.{arith}
 use Rattle.fips197.specs.KeyExpansion.{rotWord}
 use Rattle.aes_blocks.proofs.Columns.{entry-part, next-part, second-part, third-part, four-parts}

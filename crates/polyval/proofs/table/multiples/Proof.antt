@@ -23,11 +23,11 @@ Inv-loop h t₀ i₀ t i = (1 ≤ i) × (i ≤ 8) × (length t ≡ 32) × Below 
 abbrev μ-loop : tie.MeasureT-loop
 μ-loop h t₀ i₀ t i = 8 - i
 
-array-write-t : tie.Need-array-write-t Inv-loop μ-loop
-array-write-t c = search needs
+array-write-table : tie.Need-array-write-table Inv-loop μ-loop
+array-write-table c = search needs
 
-array-write-t-2 : tie.Need-array-write-t-2 Inv-loop μ-loop
-array-write-t-2 c = search needs
+array-write-table-2 : tie.Need-array-write-table-2 Inv-loop μ-loop
+array-write-table-2 c = search needs
 
 loop-holds : tie.Need-loop-holds Inv-loop μ-loop
 loop-holds c =
@@ -69,7 +69,7 @@ loop-again c =
     let at-loop = c .before .before .before .before .before .before .before .before .before in
     let h = at-loop .before .args .h in
     let small = halves-lt (h .hi) (h .lo) (search needs) (search needs) in
-    let t = at-loop .loop .t in
+    let t = at-loop .loop .table in
     let i = at-loop .loop .i in
     let e = c .before .before .before .before .before .times-x in
     let d = c .before .add in
@@ -97,7 +97,7 @@ loop-again c =
 returns : tie.Need-returns Inv-loop μ-loop
 returns c =
     let h = c .before .before .args .h in
-    let t = c .before .loop .t in
+    let t = c .before .loop .table in
     let small = halves-lt (h .hi) (h .lo) (search needs) (search needs) in
     let e : 16 ≡ 2 * c .before .loop .i = omega arith in
     let all : Multiples (num h) t = λ u l. c .before .loop .inv .3 u (subst (λ (n : ℕ). u < n) e l) in
@@ -110,8 +110,8 @@ multiples-spec =
     (tie.spec
     Inv-loop
     μ-loop
-    array-write-t
-    array-write-t-2
+    array-write-table
+    array-write-table-2
     loop-holds
     entry-requires
     times-x-requires
