@@ -1,6 +1,6 @@
 // Addresses of handles: where a memory place is, and whether every byte of a handle there can be loaded.
 ghost use mathlib.Core.Path.{_≡_};
-ghost use Prim.Native.Nat.{ℕ, _*_, _^_, _%_};
+ghost use Prim.Native.Nat.{_*_, _^_, _%_};
 ghost use lib.ListN.{getD};
 ghost use Rattle.isa.specs.Address as isa;
 ghost use Rattle.isa.specs.Ranges.{handleLength, someNotCanonical, someOutside};

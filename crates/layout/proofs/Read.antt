@@ -2,7 +2,7 @@
 -- Assumes nothing.
 use mathlib.Core.Path.{_≡_, _∙_, sym, ap, ap₂}
 use mathlib.Core.List.{List, [], _∷_, _++_}
-use Prim.Native.Nat.{ℕ, suc, _+_, _<_, _≤_}
+use Prim.Native.Nat.{ℕ, suc, _+_, _-_, _<_, _≤_}
 use native.Mathlib.Nat.{add-zero}
 use native.Mathlib.Numerals.{add-one}
 use native.Mathlib.Omega.{arith}
@@ -32,6 +32,13 @@ pub record Reading (n : ℕ) (s : List ℕ) (at : ℕ) (a : List ℕ) (i : ℕ) 
   pub within : i ≤ n
   pub size : length a ≡ n
   pub front : take i a ≡ part i at s
+
+-- invariant and measure, over the locals where the loop begins and now
+abbrev pub reading : ℕ → List ℕ → ℕ → List ℕ → ℕ → List ℕ → ℕ → Type 0
+reading n s at a₀ i₀ a i = Reading n s at a i
+
+abbrev pub unread : ℕ → List ℕ → ℕ → List ℕ → ℕ → List ℕ → ℕ → ℕ
+unread n s at a₀ i₀ a i = n - i
 
 module _ {n : ℕ} {s : List ℕ} {at : ℕ} {a : List ℕ} {i : ℕ} (t : Reading n s at a i) where
   pub reading-more : at + n ≤ length s → i < n → Reading n s at (set a i (getD s (at + i) 0)) (i + 1)

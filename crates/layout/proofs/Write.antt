@@ -2,7 +2,7 @@
 -- Assumes nothing.
 use mathlib.Core.Path.{_≡_, _∙_, refl, sym, ap}
 use mathlib.Core.List.{List, [], _∷_, _++_, append-nil, append-assoc}
-use Prim.Native.Nat.{ℕ, suc, _+_, _*_, _<_, _≤_}
+use Prim.Native.Nat.{ℕ, suc, _+_, _-_, _*_, _<_, _≤_}
 use native.Mathlib.Nat.{zero-add, le-refl}
 use native.Mathlib.Numerals.{add-one}
 use native.Mathlib.Omega.{arith}
@@ -47,6 +47,13 @@ pub record Writing (n : ℕ) (o : List ℕ) (at : ℕ) (a l : List ℕ) (i : ℕ
   pub size : length a ≡ n
   pub same : length l ≡ length o
   pub front : l ≡ sets o at (take i a)
+
+-- invariant and measure, over the locals where the loop begins and now
+abbrev pub writing : ℕ → List ℕ → ℕ → List ℕ → ℕ → List ℕ → ℕ → Type 0
+writing n o at a i₀ l i = Writing n o at a l i
+
+abbrev pub unwritten : ℕ → List ℕ → ℕ → List ℕ → ℕ → List ℕ → ℕ → ℕ
+unwritten n o at a i₀ l i = n - i
 
 module _ {n : ℕ} {o : List ℕ} {at : ℕ} {a l : List ℕ} {i : ℕ} (t : Writing n o at a l i) where
   pub writing-more : i < n → Writing n o at a (set l (at + i) (getD a i 0)) (i + 1)

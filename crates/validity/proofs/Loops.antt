@@ -3,7 +3,7 @@
 use mathlib.Core.Path.{_≡_, _∙_, sym, ap}
 use mathlib.Core.Bool.{Bool, _&&_, and-assoc, and-true}
 use mathlib.Core.List.{List}
-use Prim.Native.Nat.{ℕ, _+_, _<_, _≤_}
+use Prim.Native.Nat.{ℕ, _+_, _-_, _<_, _≤_}
 use native.Mathlib.Numerals.{add-one}
 use native.Mathlib.Omega.{arith}
 use lib.Dec.{eqb, ltb}
@@ -23,6 +23,13 @@ pub record Tested (n : ℕ) (a : List ℕ) (z : Bool) (i : ℕ) : Type 0 where
   pub within : i ≤ n
   pub size : length a ≡ n
   pub both : z && allZero (drop i a) ≡ allZero a
+
+-- invariant and measure, over the locals where the loop begins and now
+abbrev pub testing : ℕ → List ℕ → Bool → ℕ → Bool → ℕ → Type 0
+testing n a z₀ i₀ z i = Tested n a z i
+
+abbrev pub untested : ℕ → List ℕ → Bool → ℕ → Bool → ℕ → ℕ
+untested n a z₀ i₀ z i = n - i
 
 module _ {n : ℕ} {a : List ℕ} {z : Bool} {i : ℕ} (t : Tested n a z i) where
   pub tested-more : i < n → Tested n a (z && eqb (getD a i 0) 0) (i + 1)

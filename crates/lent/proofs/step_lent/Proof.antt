@@ -29,7 +29,7 @@ use denote.Memory.{mem}
 use denote.Plain.{uint-vals, uint-tells}
 use denote.Builtin.{u8}
 use denote.Ref.{RefT, MutRef, ptr-vals, mut-tells}
-use denote.Signature.{Slot, plain, shrSliceOf}
+use denote.Signature.{plain}
 use denote.Slice.{sliceVal, MutSlice, ShrSlice, finally, slice-vals, mut-slice-tells, shr-slice-tells, mut-slice-lawful, shr-slice-lawful}
 use denote.Steps.{only, opens, closes, owned, peeks, heard, nothing}
 use denote.Struct.Steps.{spelt}
@@ -41,8 +41,7 @@ use denote.Triple.Entry.{onEntry}
 use denote.Triple.Spec.{Meets, tripleOf}
 use denote.Triple.Table.{entered, cited}
 use denote.Triple.Clauses.{ensured, lasts}
-use denote.Triple.Walked.{says, Stays, stay-ref, stay-dropped, gave-slice, walkOf, AllGo, goes-ref, goes-dropped, goes-gave-slice, Walks, ends-at, walked, walk-meets}
-use denote.Exit.{yes}
+use denote.Triple.Walked.{says, Stays, stay-ref, walkOf, AllGo, goes-ref, Walks, ends-at, walked, walk-meets}
 use Rattle.model.specs.Calls.{StepCall, step}
 use Rattle.model.specs.Execution.{call}
 use Rattle.model.specs.declared.Machine.{Machine}
@@ -52,6 +51,7 @@ use Rattle.machine.proofs.Answer as E
 use Rattle.machine.proofs.Answer.Laws as E′
 use Rattle.lent.specs.Form.{left, leftOf}
 use Rattle.lent.specs.declared.Taken.{Taken}
+use Rattle.lent.proofs.Places.{rest-stayed, rest-goes}
 use Rattle.lent.proofs.Taken as S
 use Rattle.lent.proofs.Taken.Laws as S′
 use Rattle.lent.proofs.take_step as take
@@ -66,28 +66,9 @@ use Rattle.lent.proofs.step_lent.Code as code
 abbrev Bytes : Type 0
 Bytes = RefT (List ℕ)
 
--- a byte, as a place in the signature
-abbrev byte : Slot 5
-byte = plain (λ _. u8)
-
 -- at exit the machine's borrow is still owned, the CPU record's is given up, and nothing else is needed
 abbrev stayed : Stays (here.ended .signature .params) (here.ended .kept)
-stayed = (
-  stay-ref (0 ∷ []) tt (plain (λ _. T.the-row)),
-  (
-    stay-dropped byte yes,
-    (
-      gave-slice (1 ∷ []) tt byte,
-      (
-        stay-dropped (shrSliceOf (2 ∷ []) tt byte) yes,
-        (
-          stay-dropped (shrSliceOf (3 ∷ []) tt byte) yes,
-          (stay-dropped (shrSliceOf (4 ∷ []) tt byte) yes, tt),
-        ),
-      ),
-    ),
-  ),
-)
+stayed = (stay-ref (0 ∷ []) tt (plain (λ _. T.the-row)), rest-stayed 5 1 2 3 4 tt tt tt tt)
 
 -- the contract that the proof cites
 abbrev Take : {M : Type 1} (𝓤 : URA M) (H : Heap 𝓤) (A : Atoms 𝓤) (at-mem : Memory → SProp 𝓤) (run : Routine → Fun 𝓤) → Contract 𝓤
@@ -220,22 +201,7 @@ module _ {M : Type 1} (𝓤 : URA M) (H : Heap 𝓤) (A : Atoms 𝓤) (W : Given
       (a .0 .ptr .0) (a .0 .ptr .1) (a .0 .name) (a .0 .now) (a .1 .0) (a .1 .1 .0) (a .1 .1 .1 .0) (a .1 .1 .1 .1 .0) (a .1 .1 .1 .1 .1 .0) C Λ fm known (are .1 .0 .1) (are .1 .1 .0) (are .1 .1 .1 .0) (are .1 .1 .1 .1 .0) (are .1 .1 .1 .1 .1 .0)))
 
   goes : AllGo 𝓤 H A W 5 (here.signature .params) (here.ended .kept) stayed
-  goes = (
-    goes-ref 𝓤 H A W 5 0 tt (plain (λ _. T.the-row)),
-    (
-      goes-dropped 𝓤 H A W 5 byte yes (λ κs x f. refl),
-      (
-        goes-gave-slice 𝓤 H A W 5 1 tt byte,
-        (
-          goes-dropped 𝓤 H A W 5 (shrSliceOf (2 ∷ []) tt byte) yes (λ κs x f. refl),
-          (
-            goes-dropped 𝓤 H A W 5 (shrSliceOf (3 ∷ []) tt byte) yes (λ κs x f. refl),
-            (goes-dropped 𝓤 H A W 5 (shrSliceOf (4 ∷ []) tt byte) yes (λ κs x f. refl), tt),
-          ),
-        ),
-      ),
-    ),
-  )
+  goes = (goes-ref 𝓤 H A W 5 0 tt (plain (λ _. T.the-row)), rest-goes 5 1 2 3 4 tt tt tt tt 𝓤 H A W)
 
 meets : {M : Type 1} (𝓤 : URA M) (H : Heap 𝓤) (A : Atoms 𝓤) → Given 𝓤 H A → (at-mem : Memory → SProp 𝓤) (run : Routine → Fun 𝓤) (𝓣 : Tables 𝓤 H) → Triple 𝓤 (𝓣 .C #lent·take-step) (Take 𝓤 H A at-mem run)
     → Meets 𝓤 H A here.signature (WpFn 𝓤 H (𝓣 .C) (𝓣 .Λ) code.function) (here.spec 𝓤 H A at-mem run)

@@ -32,7 +32,7 @@ use denote.Memory.{mem, cellAt, partOf}
 use denote.Plain.{uint-vals, uint-tells}
 use denote.Builtin.{u8}
 use denote.Ref.{RefT, MutRef}
-use denote.Signature.{Slot, plain, shrSliceOf}
+use denote.Signature.{Slot, plain}
 use denote.Slice.{sliceVal, MutSlice, ShrSlice, finally, slice-vals, mut-slice-tells, shr-slice-tells, mut-slice-lawful, shr-slice-lawful}
 use denote.Steps.{only, owned, peeks, heard, nothing}
 use denote.Struct.Steps.{spelt}
@@ -44,7 +44,7 @@ use denote.Triple.Entry.{onEntry}
 use denote.Triple.Spec.{Meets, tripleOf}
 use denote.Triple.Table.{entered, cited}
 use denote.Triple.Clauses.{ensured, lasts}
-use denote.Triple.Walked.{says, Stays, stay-dropped, gave-slice, walkOf, AllGo, goes-dropped, goes-gave-slice, Walks, ends-at, walked, walk-meets}
+use denote.Triple.Walked.{says, Stays, stay-dropped, walkOf, AllGo, goes-dropped, Walks, ends-at, walked, walk-meets}
 use denote.Exit.{yes}
 use Rattle.model.specs.Calls.{StepCall, step}
 use Rattle.model.specs.Execution.{call}
@@ -56,6 +56,7 @@ use Rattle.machine.proofs.Answer as E
 use Rattle.machine.proofs.Answer.Laws as E′
 use Rattle.lent.specs.Form.{left, leftOf}
 use Rattle.lent.specs.declared.Taken.{Taken}
+use Rattle.lent.proofs.Places.{rest-stayed, rest-goes}
 use Rattle.lent.proofs.Taken as S
 use Rattle.lent.proofs.Taken.Laws as S′
 use Rattle.lent.proofs.step_lent as lent
@@ -70,31 +71,13 @@ use Rattle.lent.proofs.step_through.Code as code
 abbrev Bytes : Type 0
 Bytes = RefT (List ℕ)
 
--- a machine and a byte, as places in the signature
+-- a machine, as a place in the signature
 abbrev machine : Slot 4
 machine = plain (λ _. T.the-row)
 
-abbrev byte : Slot 4
-byte = plain (λ _. u8)
-
 -- at exit the CPU record's borrow is given up, and nothing else is needed
 abbrev stayed : Stays (here.ended .signature .params) (here.ended .kept)
-stayed = (
-  stay-dropped machine yes,
-  (
-    stay-dropped byte yes,
-    (
-      gave-slice (0 ∷ []) tt byte,
-      (
-        stay-dropped (shrSliceOf (1 ∷ []) tt byte) yes,
-        (
-          stay-dropped (shrSliceOf (2 ∷ []) tt byte) yes,
-          (stay-dropped (shrSliceOf (3 ∷ []) tt byte) yes, tt),
-        ),
-      ),
-    ),
-  ),
-)
+stayed = (stay-dropped machine yes, rest-stayed 4 0 1 2 3 tt tt tt tt)
 
 -- the contract that the proof cites
 abbrev Lent : {M : Type 1} (𝓤 : URA M) (H : Heap 𝓤) (A : Atoms 𝓤) (at-mem : Memory → SProp 𝓤) (run : Routine → Fun 𝓤) → Contract 𝓤
@@ -248,22 +231,7 @@ module _ {M : Type 1} (𝓤 : URA M) (H : Heap 𝓤) (A : Atoms 𝓤) (W : Given
       (a .0) (a .1 .0) (a .1 .1 .0) (a .1 .1 .1 .0) (a .1 .1 .1 .1 .0) (a .1 .1 .1 .1 .1 .0) C Λ fm known (are .0) (are .1 .0 .1) (are .1 .1 .0) (are .1 .1 .1 .0) (are .1 .1 .1 .1 .0) (are .1 .1 .1 .1 .1 .0)))
 
   goes : AllGo 𝓤 H A W 4 (here.signature .params) (here.ended .kept) stayed
-  goes = (
-    goes-dropped 𝓤 H A W 4 machine yes (λ κs x f. refl),
-    (
-      goes-dropped 𝓤 H A W 4 byte yes (λ κs x f. refl),
-      (
-        goes-gave-slice 𝓤 H A W 4 0 tt byte,
-        (
-          goes-dropped 𝓤 H A W 4 (shrSliceOf (1 ∷ []) tt byte) yes (λ κs x f. refl),
-          (
-            goes-dropped 𝓤 H A W 4 (shrSliceOf (2 ∷ []) tt byte) yes (λ κs x f. refl),
-            (goes-dropped 𝓤 H A W 4 (shrSliceOf (3 ∷ []) tt byte) yes (λ κs x f. refl), tt),
-          ),
-        ),
-      ),
-    ),
-  )
+  goes = (goes-dropped 𝓤 H A W 4 machine yes (λ κs x f. refl), rest-goes 4 0 1 2 3 tt tt tt tt 𝓤 H A W)
 
 meets : {M : Type 1} (𝓤 : URA M) (H : Heap 𝓤) (A : Atoms 𝓤) → Given 𝓤 H A → (at-mem : Memory → SProp 𝓤) (run : Routine → Fun 𝓤) (𝓣 : Tables 𝓤 H) → Triple 𝓤 (𝓣 .C #lent·step-lent) (Lent 𝓤 H A at-mem run)
     → Meets 𝓤 H A here.signature (WpFn 𝓤 H (𝓣 .C) (𝓣 .Λ) code.function) (here.spec 𝓤 H A at-mem run)

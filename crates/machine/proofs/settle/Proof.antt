@@ -14,9 +14,7 @@ refused-requires : tie.Need-refused-requires
 refused-requires c κs = search needs
 
 returns : tie.Need-returns
-returns c =
-    let a = c .before .before .before .args in
-    c .refused .ensures ∙ outcome-invalid (a .m) (settling (a .code)) (c .before .before .valid .ensures) (c .before .if1 .taken)
+returns c = c .refused .ensures ∙ outcome-invalid _ (settling (c .before .before .before .args .code)) (c .before .before .valid .ensures) (c .before .if1 .taken)
 
 refused-requires-2 : tie.Need-refused-requires-2
 refused-requires-2 c κs = search needs

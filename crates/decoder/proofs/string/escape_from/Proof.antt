@@ -1,9 +1,7 @@
 -- Assumes nothing.
-use mathlib.Core.Path.{sym, ap, _∙_}
-use borrow.Author.Tests.{eq-eqb, ne-eqb}
-use Rattle.bits.proofs.Choice.{cond-on, cond-off}
+use mathlib.Core.Path.{_∙_, refl, ap}
 use Rattle.isa.specs.Decode.{escapeFrom, mapFrom}
-use Rattle.isa.specs.declared.Step.{Step}
+use Rattle.decoder.proofs.Fixed.{fixed-there, fixed-bad}
 use borrow.Author.Needs.{needs}
 use Rattle.decoder.proofs.string.escape_from.Statement.{statement}
 use Rattle.decoder.proofs.string.escape_from.Tie as tie
@@ -20,16 +18,14 @@ map-from-requires c κs = search needs
 returns : tie.Need-returns
 returns c =
     let a = c .before .before .before .before .before .before .before .args in
-    c .map-from .ensures ∙ ap (λ (z : Step). mapFrom (a .s .now) (a .p) z) (c .before .byte-at .ensures)
-    ∙ sym (cond-on (eq-eqb _ _ (c .before .before .if1 .taken)) _ _) ∙ ap (λ (z : Step). escapeFrom (a .s .now) (a .p) z) (sym (c .before .before .before .before .step .given .1))
+    c .map-from .ensures ∙ ap (mapFrom (a .s .now) (a .p)) (c .before .byte-at .ensures)
+    ∙ fixed-there (escapeFrom (a .s .now) (a .p)) 0x0F _ (c .before .before .before .before .step .given .1) refl (c .before .before .if1 .taken)
 
 enum-told : tie.Need-enum-told
 enum-told c = search needs
 
 returns-2 : tie.Need-returns-2
-returns-2 c =
-    let a = c .before .before .before .before .before .args in
-    sym (cond-off (ne-eqb _ _ (c .if1 .left)) _ _) ∙ ap (λ (z : Step). escapeFrom (a .s .now) (a .p) z) (sym (c .before .before .step .given .1))
+returns-2 c = fixed-bad (escapeFrom _ _) 0x0F _ (c .before .before .step .given .1) refl (c .if1 .left)
 
 returns-3 : tie.Need-returns-3
 returns-3 c = search needs
