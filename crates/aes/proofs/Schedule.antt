@@ -15,7 +15,7 @@ use Rattle.fips197.specs.Cipher.{cipher}
 use Rattle.fips197.specs.InvCipher.{invCipher}
 use Rattle.fips197.proofs.Schedule.{cipher-take, inv-cipher-take, expansion-length}
 use Rattle.fips197.specs.Sizes.{nk, nr}
-use Rattle.aes.specs.Form.{keyBytes, schedule, storedSchedule}
+use Rattle.aes.specs.Meaning.{keyBytes, schedule, storedSchedule}
 use Rattle.aes.specs.declared.Key.{Key}
 use Rattle.fips197.specs.declared.KeySize.{KeySize}
 use Rattle.fips197.specs.declared.KeySize.the-variants.{Aes128, Aes256}

@@ -6,7 +6,7 @@ ghost use Rattle.fips197.specs.Sbox.{SboxTable};
 ghost use Rattle.fips197.specs.Cipher.{subBytes, shiftRows, addRoundKey, finalRound};
 ghost use Rattle.fips197.specs.KeyExpansion.{roundKey};
 ghost use Rattle.fips197.specs.Sizes.{nr};
-ghost use Rattle.aes.specs.Form.{bytesOf};
+ghost use Rattle.aes.specs.Meaning.{bytesOf};
 use crate::Block;
 use crate::word::sub_diagonal;
 use fips197::KeySize;

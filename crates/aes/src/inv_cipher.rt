@@ -2,7 +2,7 @@
 ghost use mathlib.Core.Path.{_≡_};
 ghost use Rattle.fips197.specs.Sbox.{InvSboxTable};
 ghost use Rattle.fips197.specs.InvCipher.{invSubBytes, invShiftRows, invFinalRound};
-ghost use Rattle.aes.specs.Form.{bytesOf};
+ghost use Rattle.aes.specs.Meaning.{bytesOf};
 use crate::Block;
 use crate::cipher::add_round_key;
 use crate::word::sub_diagonal;

@@ -7,7 +7,7 @@ ghost use lib.Seq.{sets};
 ghost use Rattle.bits.specs.Words.{leBytes};
 ghost use Rattle.fips197.specs.KeyExpansion.{rotWord};
 ghost use Rattle.aes.specs.Columns.{diagonal};
-ghost use Rattle.aes.specs.Form.{bytesOf};
+ghost use Rattle.aes.specs.Meaning.{bytesOf};
 use crate::Block;
 use crate::Key;
 

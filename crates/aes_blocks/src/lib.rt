@@ -10,7 +10,7 @@ ghost use Rattle.fips197.specs.Cipher as fips;
 ghost use Rattle.fips197.specs.InvCipher.{invSubBytes, invShiftRows, invMixRow, invMixColumns, invRound, invCipher};
 ghost use Rattle.aes_blocks.specs.Tables.{Products, MixedTable, InvMixedTable, InvMixed};
 ghost use Rattle.fips197.specs.Sizes.{nr};
-ghost use Rattle.aes.specs.Form.{bytesOf, schedule};
+ghost use Rattle.aes.specs.Meaning.{bytesOf, schedule};
 
 pub mod tables;
 

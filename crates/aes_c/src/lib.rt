@@ -7,7 +7,7 @@ ghost use Rattle.bits.specs.Words.{leWords};
 ghost use Rattle.fips197.specs.Cipher.{cipher};
 ghost use Rattle.fips197.specs.InvCipher.{invCipher};
 ghost use Rattle.fips197.specs.Sizes.{nk, nr};
-ghost use Rattle.aes.specs.Form.{bytesOf, keyBytes, schedule, storedSchedule};
+ghost use Rattle.aes.specs.Meaning.{bytesOf, keyBytes, schedule, storedSchedule};
 ghost use Rattle.aes_c.specs.Size.{sizeOf};
 use aes::Block;
 use aes::Key;

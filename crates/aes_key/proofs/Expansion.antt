@@ -23,7 +23,7 @@ use Rattle.fips197.proofs.Schedule.{power-byte}
 use Rattle.fips197.specs.Sizes.{nk}
 use Rattle.fips197.specs.declared.KeySize.{KeySize}
 use Rattle.fips197.specs.declared.KeySize.the-variants.{Aes128, Aes256}
-use Rattle.aes.specs.Form.{storedSchedule}
+use Rattle.aes.specs.Meaning.{storedSchedule}
 use Rattle.aes.proofs.Schedule.{word-words}
 
 -- the powers of x that ten round constants need, as the code shifts for them

@@ -8,7 +8,7 @@ ghost use Rattle.fips197.specs.Sbox.{SboxTable};
 ghost use Rattle.fips197.specs.KeyExpansion.{power, subWord, nextWord};
 ghost use Rattle.fips197.specs.KeyExpansion as fips;
 ghost use Rattle.fips197.specs.Sizes.{nk};
-ghost use Rattle.aes.specs.Form.{bytesOf, keyBytes, storedSchedule};
+ghost use Rattle.aes.specs.Meaning.{bytesOf, keyBytes, storedSchedule};
 use aes::Key;
 use aes::word::rot_word;
 use aes::word::sub_diagonal;

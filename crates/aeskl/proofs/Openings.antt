@@ -17,13 +17,13 @@ use Rattle.handle.specs.Format.{tagOf, ciphertextOf}
 use Rattle.handle.specs.Wrap.{decrypted, unwrapKey}
 use Rattle.handle.proofs.Wrap.{masked-length, unwrap-key}
 use Rattle.fips197.specs.Sizes.{nk}
-use Rattle.aes.specs.Form.{bytesOf, keyBytes}
+use Rattle.aes.specs.Meaning.{bytesOf, keyBytes}
 use Rattle.aes.proofs.Schedule.{rounds-few}
 use Rattle.fips197.specs.declared.Direction.{Direction}
 use Rattle.aes.specs.declared.Key.{Key}
 use Rattle.fips197.specs.declared.KeySize.{KeySize}
 use Rattle.fips197.specs.declared.KeySize.the-variants.{Aes128, Aes256}
-use Rattle.keywrap.specs.Form.{wholeKey, handleBytes, padded, paddedKey}
+use Rattle.keywrap.specs.Meaning.{wholeKey, handleBytes, padded, paddedKey}
 use Rattle.keywrap.specs.declared.Handle.{Handle}
 use Rattle.model.specs.Cpu.{withZf, mapXmm}
 use Rattle.model.specs.Instructions.{typeOf, aes, forbids, illegal, openedFor, ciphered}

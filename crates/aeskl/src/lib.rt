@@ -5,12 +5,12 @@ ghost use Prim.Native.Nat.{_/_};
 ghost use lib.ListN.{length};
 ghost use Rattle.bits.specs.Blocks.{mapBlocks};
 ghost use Rattle.fips197.specs.Sbox.{SboxTable};
-ghost use Rattle.aes.specs.Form.{bytesOf, keyBytes};
+ghost use Rattle.aes.specs.Meaning.{bytesOf, keyBytes};
 ghost use Rattle.aes_blocks.specs.Tables.{MixedTable};
 ghost use Rattle.handle.specs.Wrap.{unwrapKey};
-ghost use Rattle.keywrap.specs.Form.{opened, paddedKey, handleBytes};
+ghost use Rattle.keywrap.specs.Meaning.{opened, paddedKey, handleBytes};
 ghost use Rattle.model.specs.Cpu.{cpl, withXmm, withZf, mapXmm};
-ghost use Rattle.model.specs.Instructions as model;
+ghost use Rattle.model.specs.Instructions as instructions;
 use aes::Block;
 use aes::Key;
 use aes::word::from_bytes;
@@ -33,7 +33,7 @@ use model::IwKey;
 use sbox::sbox_table;
 
 fn forbids(direction: Direction, restrictions: u32) -> bool
-    ensures { λ r. ⌜ r ≡ model.forbids direction restrictions ⌝ }
+    ensures { λ r. ⌜ r ≡ instructions.forbids direction restrictions ⌝ }
 {
     match direction {
         Direction::Encrypt => restrictions / 2 % 2 == 1,
@@ -42,7 +42,7 @@ fn forbids(direction: Direction, restrictions: u32) -> bool
 }
 
 fn type_of(size: KeySize) -> u32
-    ensures { λ r. ⌜ r ≡ model.typeOf size ⌝ }
+    ensures { λ r. ⌜ r ≡ instructions.typeOf size ⌝ }
 {
     match size {
         KeySize::Aes128 => 0,
@@ -52,7 +52,7 @@ fn type_of(size: KeySize) -> u32
 
 // Of the AAD's 128 bits all that may be set stand in its first word.
 fn illegal(cpl: u8, size: KeySize, direction: Direction, aad: Block) -> bool
-    ensures { λ r. ⌜ r ≡ model.illegal cpl size direction (bytesOf aad) ⌝ }
+    ensures { λ r. ⌜ r ≡ instructions.illegal cpl size direction (bytesOf aad) ⌝ }
 {
     let w = aad.a;
     let reserved = !(((w / 0x1000_0000 == 0) & ((aad.b == 0) & ((aad.c == 0) & (aad.d == 0))))
@@ -66,7 +66,7 @@ fn illegal(cpl: u8, size: KeySize, direction: Direction, aad: Block) -> bool
 // The same, at the CPU record's CPL.
 fn illegal_at(cpu: &[u8; 408], size: KeySize, direction: Direction, aad: Block) -> bool
     requires { ⌜ length (now cpu) ≡ 408 ⌝ }
-    ensures { λ r. ⌜ r ≡ model.illegal (cpl (now (cpu .entry))) size direction (bytesOf aad) ⌝ }
+    ensures { λ r. ⌜ r ≡ instructions.illegal (cpl (now (cpu .entry))) size direction (bytesOf aad) ⌝ }
 {
     illegal(cpu::cpl(cpu), size, direction, aad)
 }
@@ -107,7 +107,7 @@ fn cipher_block(
 ) -> Block
     requires { ⌜ MixedTable (now mixed) ⌝ }
     requires { ⌜ SboxTable (now sbox) ⌝ }
-    ensures { λ r. ⌜ bytesOf r ≡ model.aes direction size (keyBytes size key) (bytesOf b) ⌝ }
+    ensures { λ r. ⌜ bytesOf r ≡ instructions.aes direction size (keyBytes size key) (bytesOf b) ⌝ }
 {
     let w = expand_with(sbox, size, key);
     match direction {
@@ -126,7 +126,7 @@ fn cipher_blocks(
 )
     requires { ⌜ MixedTable (now mixed) ⌝ }
     requires { ⌜ SboxTable (now sbox) ⌝ }
-    ensures { λ _. ⌜ now (bytes .exit) ≡ mapBlocks (model.aes direction size (keyBytes size key)) (length (now (bytes .entry)) / 16) (now (bytes .entry)) ⌝ }
+    ensures { λ _. ⌜ now (bytes .exit) ≡ mapBlocks (instructions.aes direction size (keyBytes size key)) (length (now (bytes .entry)) / 16) (now (bytes .entry)) ⌝ }
 {
     let w = expand_with(sbox, size, key);
     match direction {
@@ -165,7 +165,7 @@ fn done_wide(
 ) -> [u8; 408]
     requires { ⌜ MixedTable (now mixed) ⌝ }
     requires { ⌜ SboxTable (now sbox) ⌝ }
-    ensures { λ r. ⌜ r ≡ withZf 0 (mapXmm (model.aes direction size (keyBytes size key)) (0 ∷ 1 ∷ 2 ∷ 3 ∷ 4 ∷ 5 ∷ 6 ∷ 7 ∷ []) cpu) ⌝ }
+    ensures { λ r. ⌜ r ≡ withZf 0 (mapXmm (instructions.aes direction size (keyBytes size key)) (0 ∷ 1 ∷ 2 ∷ 3 ∷ 4 ∷ 5 ∷ 6 ∷ 7 ∷ []) cpu) ⌝ }
 {
     let mut c = cpu;
     cipher_blocks(mixed, sbox, direction, size, key, &mut c[0..128]);
@@ -182,7 +182,7 @@ pub fn use_single(
     h: Handle,
     cpu: [u8; 408],
 ) -> [u8; 408]
-    ensures { λ r. ⌜ r ≡ model.ciphered direction size (block ∷ []) (model.openedFor k (cpl cpu) size direction (handleBytes size h)) cpu ⌝ }
+    ensures { λ r. ⌜ r ≡ instructions.ciphered direction size (block ∷ []) (instructions.openedFor k (cpl cpu) size direction (handleBytes size h)) cpu ⌝ }
 {
     if illegal_at(&cpu, size, direction, h.aad) {
         return failed(cpu);
@@ -205,7 +205,7 @@ pub fn use_wide(
     h: Handle,
     cpu: [u8; 408],
 ) -> [u8; 408]
-    ensures { λ r. ⌜ r ≡ model.ciphered direction size (0 ∷ 1 ∷ 2 ∷ 3 ∷ 4 ∷ 5 ∷ 6 ∷ 7 ∷ []) (model.openedFor k (cpl cpu) size direction (handleBytes size h)) cpu ⌝ }
+    ensures { λ r. ⌜ r ≡ instructions.ciphered direction size (0 ∷ 1 ∷ 2 ∷ 3 ∷ 4 ∷ 5 ∷ 6 ∷ 7 ∷ []) (instructions.openedFor k (cpl cpu) size direction (handleBytes size h)) cpu ⌝ }
 {
     if illegal_at(&cpu, size, direction, h.aad) {
         return failed(cpu);

@@ -5,9 +5,9 @@ ghost use Prim.Native.Nat.{ℕ, _+_, _<_, _≤_};
 ghost use lib.ListN.{length, getD};
 ghost use lib.Seq.{sets};
 ghost use Rattle.bits.specs.Words.{leBytes, leValue};
-ghost use Rattle.aes.specs.Form.{bytesOf};
+ghost use Rattle.aes.specs.Meaning.{bytesOf};
 ghost use Rattle.model.specs.Numbers.{clearBit, part};
-ghost use Rattle.model.specs.Cpu as model;
+ghost use Rattle.model.specs.Cpu as cpuRecord;
 ghost use Rattle.model.specs.Forms.{registerOf};
 use aes::Block;
 use aes::word::block_at;
@@ -51,15 +51,15 @@ fn put_quad(s: &mut [u8], at: usize, x: u64)
 // ---- XMM registers
 
 pub fn xmm(cpu: &[u8], n: u8) -> Block
-    requires { ⌜ length (now cpu) ≡ model.cpuSize ⌝ }
-    ensures { λ r. ⌜ bytesOf r ≡ model.xmm n (now (cpu .entry)) ⌝ }
+    requires { ⌜ length (now cpu) ≡ cpuRecord.cpuSize ⌝ }
+    ensures { λ r. ⌜ bytesOf r ≡ cpuRecord.xmm n (now (cpu .entry)) ⌝ }
 {
     block_at(cpu, 16 * (n % 16) as usize)
 }
 
 pub fn put_xmm(cpu: &mut [u8], n: u8, b: Block)
-    requires { ⌜ length (now cpu) ≡ model.cpuSize ⌝ }
-    ensures { λ _. ⌜ now (cpu .exit) ≡ model.withXmm n (bytesOf b) (now (cpu .entry)) ⌝ }
+    requires { ⌜ length (now cpu) ≡ cpuRecord.cpuSize ⌝ }
+    ensures { λ _. ⌜ now (cpu .exit) ≡ cpuRecord.withXmm n (bytesOf b) (now (cpu .entry)) ⌝ }
 {
     put_block(cpu, 16 * (n % 16) as usize, b);
 }
@@ -67,15 +67,15 @@ pub fn put_xmm(cpu: &mut [u8], n: u8, b: Block)
 // ---- general registers, RIP and RFLAGS
 
 pub fn register(cpu: &[u8], n: u8) -> u64
-    requires { ⌜ length (now cpu) ≡ model.cpuSize ⌝ }
-    ensures { λ r. ⌜ r ≡ model.register n (now (cpu .entry)) ⌝ }
+    requires { ⌜ length (now cpu) ≡ cpuRecord.cpuSize ⌝ }
+    ensures { λ r. ⌜ r ≡ cpuRecord.register n (now (cpu .entry)) ⌝ }
 {
     quad_at(cpu, REGISTERS + 8 * (n % 16) as usize)
 }
 
 pub fn put_register(cpu: &mut [u8], n: u8, x: u64)
-    requires { ⌜ length (now cpu) ≡ model.cpuSize ⌝ }
-    ensures { λ _. ⌜ now (cpu .exit) ≡ model.withRegister n x (now (cpu .entry)) ⌝ }
+    requires { ⌜ length (now cpu) ≡ cpuRecord.cpuSize ⌝ }
+    ensures { λ _. ⌜ now (cpu .exit) ≡ cpuRecord.withRegister n x (now (cpu .entry)) ⌝ }
 {
     put_quad(cpu, REGISTERS + 8 * (n % 16) as usize, x);
 }
@@ -92,8 +92,8 @@ pub fn register_of(o: Operand) -> u8
 
 // All sixteen, as the effective address wants them.
 pub fn registers(cpu: &[u8]) -> [u64; 16]
-    requires { ⌜ length (now cpu) ≡ model.cpuSize ⌝ }
-    ensures { λ r. ⌜ ((n : ℕ) → n < 16 → getD r n 0 ≡ model.register n (now (cpu .entry))) ⌝ }
+    requires { ⌜ length (now cpu) ≡ cpuRecord.cpuSize ⌝ }
+    ensures { λ r. ⌜ ((n : ℕ) → n < 16 → getD r n 0 ≡ cpuRecord.register n (now (cpu .entry))) ⌝ }
 {
     let mut r = [0u64; 16];
     for i in 0..16usize {
@@ -104,15 +104,15 @@ pub fn registers(cpu: &[u8]) -> [u64; 16]
 }
 
 pub fn rip(cpu: &[u8]) -> u64
-    requires { ⌜ length (now cpu) ≡ model.cpuSize ⌝ }
-    ensures { λ r. ⌜ r ≡ model.rip (now (cpu .entry)) ⌝ }
+    requires { ⌜ length (now cpu) ≡ cpuRecord.cpuSize ⌝ }
+    ensures { λ r. ⌜ r ≡ cpuRecord.rip (now (cpu .entry)) ⌝ }
 {
     quad_at(cpu, RIP)
 }
 
 pub fn put_rip(cpu: &mut [u8], x: u64)
-    requires { ⌜ length (now cpu) ≡ model.cpuSize ⌝ }
-    ensures { λ _. ⌜ now (cpu .exit) ≡ model.withRip x (now (cpu .entry)) ⌝ }
+    requires { ⌜ length (now cpu) ≡ cpuRecord.cpuSize ⌝ }
+    ensures { λ _. ⌜ now (cpu .exit) ≡ cpuRecord.withRip x (now (cpu .entry)) ⌝ }
 {
     put_quad(cpu, RIP, x);
 }
@@ -137,7 +137,7 @@ fn clear_low(x: u64) -> u64
 
 // ZF as told, the other five flags 0.
 fn flags(zf: bool, x: u64) -> u64
-    ensures { λ r. ⌜ r ≡ model.flags (cond zf 1 0) x ⌝ }
+    ensures { λ r. ⌜ r ≡ cpuRecord.flags (cond zf 1 0) x ⌝ }
 {
     let y = clear_low(clear_high(x));
     if zf {
@@ -147,8 +147,8 @@ fn flags(zf: bool, x: u64) -> u64
 }
 
 pub fn put_zf(cpu: &mut [u8], zf: bool)
-    requires { ⌜ length (now cpu) ≡ model.cpuSize ⌝ }
-    ensures { λ _. ⌜ now (cpu .exit) ≡ model.withZf (cond zf 1 0) (now (cpu .entry)) ⌝ }
+    requires { ⌜ length (now cpu) ≡ cpuRecord.cpuSize ⌝ }
+    ensures { λ _. ⌜ now (cpu .exit) ≡ cpuRecord.withZf (cond zf 1 0) (now (cpu .entry)) ⌝ }
 {
     let x = quad_at(cpu, RFLAGS);
     put_quad(cpu, RFLAGS, flags(zf, x));
@@ -157,22 +157,22 @@ pub fn put_zf(cpu: &mut [u8], zf: bool)
 // ---- CPL, control bits and the zero fields
 
 pub fn cpl(cpu: &[u8]) -> u8
-    requires { ⌜ length (now cpu) ≡ model.cpuSize ⌝ }
-    ensures { λ r. ⌜ r ≡ model.cpl (now (cpu .entry)) ⌝ }
+    requires { ⌜ length (now cpu) ≡ cpuRecord.cpuSize ⌝ }
+    ensures { λ r. ⌜ r ≡ cpuRecord.cpl (now (cpu .entry)) ⌝ }
 {
     cpu[CPL]
 }
 
 pub fn control(cpu: &[u8]) -> u8
-    requires { ⌜ length (now cpu) ≡ model.cpuSize ⌝ }
-    ensures { λ r. ⌜ r ≡ model.control (now (cpu .entry)) ⌝ }
+    requires { ⌜ length (now cpu) ≡ cpuRecord.cpuSize ⌝ }
+    ensures { λ r. ⌜ r ≡ cpuRecord.control (now (cpu .entry)) ⌝ }
 {
     cpu[CONTROL]
 }
 
 pub fn zero_field_set(cpu: &[u8]) -> bool
-    requires { ⌜ length (now cpu) ≡ model.cpuSize ⌝ }
-    ensures { λ r. ⌜ r ≡ model.zeroFieldSet (now (cpu .entry)) ⌝ }
+    requires { ⌜ length (now cpu) ≡ cpuRecord.cpuSize ⌝ }
+    ensures { λ r. ⌜ r ≡ cpuRecord.zeroFieldSet (now (cpu .entry)) ⌝ }
 {
     (cpu[CONTROL] >= 16)
         | !((cpu[ZEROS] == 0)

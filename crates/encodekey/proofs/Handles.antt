@@ -11,13 +11,13 @@ use Rattle.bits.proofs.Lists.{sets-append}
 use Rattle.bits.proofs.Words.{le-append}
 use Rattle.handle.specs.Format.{aad}
 use Rattle.fips197.specs.Sizes.{nk}
-use Rattle.aes.specs.Form.{keyBytes}
+use Rattle.aes.specs.Meaning.{keyBytes}
 use Rattle.aes.proofs.Schedule.{rounds-few}
 use Rattle.keywrap.proofs.Sizes.{first-bytes}
 use Rattle.aes.specs.declared.Key.{Key}
 use Rattle.fips197.specs.declared.KeySize.{KeySize}
 use Rattle.isa.specs.Ranges.{handleLength}
-use Rattle.keywrap.specs.Form.{wholeKey, wholeHandle, handleBytes, padded}
+use Rattle.keywrap.specs.Meaning.{wholeKey, wholeHandle, handleBytes, padded}
 use Rattle.keywrap.specs.declared.Handle.{Handle}
 
 -- ---- the AAD

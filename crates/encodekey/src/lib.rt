@@ -3,11 +3,11 @@ ghost use mathlib.Core.Path.{_≡_};
 ghost use Prim.Native.Nat.{_*_};
 ghost use lib.ListN.{length, take, replicate};
 ghost use lib.Seq.{sets};
-ghost use Rattle.aes.specs.Form.{bytesOf};
+ghost use Rattle.aes.specs.Meaning.{bytesOf};
 ghost use Rattle.handle.specs.Format.{aad};
-ghost use Rattle.keywrap.specs.Form.{wholeKey, handleBytes};
+ghost use Rattle.keywrap.specs.Meaning.{wholeKey, handleBytes};
 ghost use Rattle.model.specs.Cpu.{cpuSize, xmmAt};
-ghost use Rattle.model.specs.Instructions as model;
+ghost use Rattle.model.specs.Instructions as instructions;
 use aes::Block;
 use aes::Key;
 use aes::word::from_bytes;
@@ -26,7 +26,7 @@ use model::IwKey;
 
 // Key type in bits 27:24, restrictions in bits 2:0.
 fn aad_of(size: KeySize, source: u64) -> Block
-    ensures { λ r. ⌜ bytesOf r ≡ aad (model.typeOf size) source ⌝ }
+    ensures { λ r. ⌜ bytesOf r ≡ aad (instructions.typeOf size) source ⌝ }
 {
     let restrictions = (source % 8) as u32;
     match size {
@@ -91,7 +91,7 @@ fn clear_xmm(cpu: &mut [u8])
 
 fn handle_of(e: EncodeKey, k: IwKey, cpu: &[u8]) -> Handle
     requires { ⌜ length (now cpu) ≡ cpuSize ⌝ }
-    ensures { λ r. ⌜ handleBytes (e .size) r ≡ model.encodedHandle e k (now (cpu .entry)) ⌝ }
+    ensures { λ r. ⌜ handleBytes (e .size) r ≡ instructions.encodedHandle e k (now (cpu .entry)) ⌝ }
 {
     let size = e.size;
     let operand = e.source;
@@ -108,7 +108,7 @@ fn handle_of(e: EncodeKey, k: IwKey, cpu: &[u8]) -> Handle
 }
 
 pub fn encode(e: EncodeKey, k: IwKey, cpu: [u8; 408]) -> [u8; 408]
-    ensures { λ r. ⌜ r ≡ model.encoded e k cpu ⌝ }
+    ensures { λ r. ⌜ r ≡ instructions.encoded e k cpu ⌝ }
 {
     let size = e.size;
     let h = handle_of(e, k, &cpu);

@@ -5,11 +5,11 @@ use mathlib.Core.List.{List, _++_}
 use Prim.Native.Nat.{ℕ, _+_, _≤_}
 use native.Mathlib.Omega.{arith}
 use Rattle.bits.proofs.Lists.{part-add}
-use Rattle.aes.specs.Form.{bytesOf}
+use Rattle.aes.specs.Meaning.{bytesOf}
 use Rattle.fips197.specs.declared.KeySize.{KeySize}
 use Rattle.fips197.specs.declared.KeySize.the-variants.{Aes128, Aes256}
 use Rattle.isa.specs.Ranges.{handleLength}
-use Rattle.keywrap.specs.Form.{handleBytes}
+use Rattle.keywrap.specs.Meaning.{handleBytes}
 use Rattle.keywrap.specs.declared.Handle.{Handle}
 use Rattle.model.specs.Numbers.{part}
 

@@ -4,12 +4,12 @@ ghost use mathlib.Core.Option.{some};
 ghost use Prim.Native.Nat.{_+_, _≤_};
 ghost use lib.ListN.{length};
 ghost use Rattle.isa.specs.Ranges.{handleLength};
-ghost use Rattle.keywrap.specs.Form.{handleBytes};
+ghost use Rattle.keywrap.specs.Meaning.{handleBytes};
 ghost use Rattle.model.specs.Numbers.{part};
 ghost use Rattle.model.specs.Cpu.{cpuSize};
 ghost use Rattle.model.specs.Forms as forms;
-ghost use Rattle.model.specs.Instructions as model;
-ghost use Rattle.loadiwkey.specs.Form.{randomData, executedOf};
+ghost use Rattle.model.specs.Instructions as instructions;
+ghost use Rattle.loadiwkey.specs.Meaning.{randomData, executedOf};
 use aes::Key;
 use aes::word::block_at;
 use aeskl::use_single;
@@ -69,7 +69,7 @@ fn handle_at(memory: &[u8], at: usize, size: KeySize) -> Handle
 
 // RIP moves past the instruction, modulo 2^64.
 pub fn advance(cpu: [u8; 408], bytes: u64) -> [u8; 408]
-    ensures { λ r. ⌜ r ≡ model.advanced bytes cpu ⌝ }
+    ensures { λ r. ⌜ r ≡ instructions.advanced bytes cpu ⌝ }
 {
     let next = wrapping_add_u64(rip(&cpu), bytes);
     let mut c = cpu;
@@ -82,7 +82,7 @@ pub fn advance(cpu: [u8; 408], bytes: u64) -> [u8; 408]
 // The four forms on one block.
 fn single(u: Use, bytes: u64, memory: &[u8], k: IwKey, cpu: [u8; 408]) -> [u8; 408]
     requires { ⌜ forms.handleAddress cpu bytes (u .handle) .linear + handleLength (u .size) ≤ length (now memory) ⌝ }
-    ensures { λ r. ⌜ r ≡ model.used (now (memory .entry)) bytes (forms.single u) k cpu ⌝ }
+    ensures { λ r. ⌜ r ≡ instructions.used (now (memory .entry)) bytes (forms.single u) k cpu ⌝ }
 {
     let direction = u.direction;
     let size = u.size;
@@ -95,7 +95,7 @@ fn single(u: Use, bytes: u64, memory: &[u8], k: IwKey, cpu: [u8; 408]) -> [u8; 4
 // The four wide forms.
 fn wide(u: WideUse, bytes: u64, memory: &[u8], k: IwKey, cpu: [u8; 408]) -> [u8; 408]
     requires { ⌜ forms.handleAddress cpu bytes (u .handle) .linear + handleLength (u .size) ≤ length (now memory) ⌝ }
-    ensures { λ r. ⌜ r ≡ model.used (now (memory .entry)) bytes (forms.wide u) k cpu ⌝ }
+    ensures { λ r. ⌜ r ≡ instructions.used (now (memory .entry)) bytes (forms.wide u) k cpu ⌝ }
 {
     let direction = u.direction;
     let size = u.size;
@@ -106,7 +106,7 @@ fn wide(u: WideUse, bytes: u64, memory: &[u8], k: IwKey, cpu: [u8; 408]) -> [u8;
 }
 
 fn encoded(e: EncodeKey, k: IwKey, cpu: [u8; 408]) -> Executed
-    ensures { λ r. ⌜ executedOf r ≡ record { key = k; cpu = model.encoded e k cpu } ⌝ }
+    ensures { λ r. ⌜ executedOf r ≡ record { key = k; cpu = instructions.encoded e k cpu } ⌝ }
 {
     let c = encode(e, k, cpu);
     Executed { key: k, cpu: c }
@@ -122,7 +122,7 @@ pub fn execute(
     cpu: [u8; 408],
 ) -> Executed
     requires { ⌜ ((f : forms.Form) → forms.formOf what ≡ some f → forms.handleAddress cpu bytes (f .handle) .linear + handleLength (f .size) ≤ length (now memory)) ⌝ }
-    ensures { λ r. ⌜ executedOf r ≡ model.execute (now (memory .entry)) (randomData random) what bytes k cpu ⌝ }
+    ensures { λ r. ⌜ executedOf r ≡ instructions.execute (now (memory .entry)) (randomData random) what bytes k cpu ⌝ }
 {
     match what {
         Instruction::Use(u) => {

@@ -21,7 +21,7 @@ use Rattle.model.specs.Records.{zeroKey}
 use Rattle.model.specs.declared.IwKey.{IwKey}
 use Rattle.model.proofs.Lent.{power-on-lent, demand-3-lent, status-registers-lent}
 use Rattle.model.proofs.Operator.{operator-rule}
-use Rattle.keylocker.specs.Form.{called}
+use Rattle.keylocker.specs.Meaning.{called}
 use Rattle.keylocker.specs.Promises.{answer, gave, PowerOnPromise, ReadPromise}
 use Rattle.keylocker.specs.Executions.{Chain, ended, stepped, didRead, wrote, settled, slept, wasReset, Execution}
 use Rattle.keylocker.proofs.Finishing.{power-on-promised, cpuOf, valueOf, answer-as, promised, read-block, read-value, read-promised}

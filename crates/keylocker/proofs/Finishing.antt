@@ -10,19 +10,19 @@ use lib.ListN.{length}
 use borrow.Author.Tests.{eqb-true, eqb-false, eq-eqb, ne-eqb}
 use Rattle.bits.proofs.Choice.{cond-on, cond-off, on-cond}
 use Rattle.model.specs.Calls.{PowerOn, StepCall, ReadCall, Call, step, read, write, settle, sleep, reset}
-use Rattle.model.specs.Calls as model
+use Rattle.model.specs.Calls as calls
 use Rattle.model.specs.Execution.{powerOnRefusal, refused, perform, numberOf, call, powerOn}
 use Rattle.model.specs.Layout.{machineSize, machineBytes, machineAt}
 use Rattle.model.specs.Lent.{Lent, into, wrongSize, powerOnLent, callLent}
 use Rattle.model.specs.declared.Machine.{Machine}
 use Rattle.model.proofs.Bytes.{bytes-at}
 use Rattle.model.proofs.Frames.{by-number, read-kept}
-use Rattle.machine.specs.Form.{outcomeOf}
+use Rattle.machine.specs.Meaning.{outcomeOf}
 use Rattle.machine.specs.declared.Answer.{Answer}
 use Rattle.machine.specs.declared.Answer.the-variants.{Done, Refused}
 use Rattle.machine.specs.declared.Outcome.{Outcome}
-use Rattle.lent.specs.Form.{Left, left, leftOf}
-use Rattle.keylocker.specs.Form.{called, calledOf, answered, finished, readAnswered}
+use Rattle.lent.specs.Meaning.{Left, left, leftOf}
+use Rattle.keylocker.specs.Meaning.{called, calledOf, answered, finished, readAnswered}
 use Rattle.keylocker.specs.Promises.{answer, gave, PowerOnPromise, StepPromise, ReadPromise}
 
 -- ---- what an answer can hold: a CPU record if the call is a step, a value if it is a read
@@ -43,7 +43,7 @@ valueOf (settle s) v = 0
 valueOf (sleep s) v = 0
 valueOf reset v = 0
 
-abbrev shown : Call → model.Answer → model.Answer
+abbrev shown : Call → calls.Answer → calls.Answer
 shown c a = answer (a .number) (cpuOf c (a .cpu)) (valueOf c (a .value))
 
 performed-as : (m : Machine) (c : Call) → perform m c .answer ≡ shown c (perform m c .answer)
@@ -80,7 +80,7 @@ promised block after n cpu v c e f g =
 -- ---- calls that are lent the block alone
 
 -- the number 0 is done, and any other refused
-finished-of : (block : List ℕ) (o : model.Outcome)
+finished-of : (block : List ℕ) (o : calls.Outcome)
     → finished block (outcomeOf o) ≡ called (o .answer .number) (cond (eqb (o .answer .number) 0) (machineBytes (o .machine)) block)
 finished-of block o = go (eqb (o .answer .number) 0) refl
   where
@@ -117,9 +117,9 @@ module _ (block : List ℕ) (p : PowerOn) where
   power-on-as : powerOnLent block p .answer ≡ answer (powerOnLent block p .answer .number) [] 0
   unfolding powerOnLent
   power-on-as =
-      let P : model.Answer → Type 0 = λ a. a ≡ answer (a .number) [] 0 in
+      let P : calls.Answer → Type 0 = λ a. a ≡ answer (a .number) [] 0 in
       on-cond (λ (x : Lent). P (x .answer)) (eqb (length block) machineSize) (into block (powerOn p)) (wrongSize block [])
-      (λ e. on-cond (λ (o : model.Outcome). P (o .answer)) (eqb (powerOnRefusal p) 0) _ _ (λ f. refl) (λ f. refl)) (λ e. refl)
+      (λ e. on-cond (λ (o : calls.Outcome). P (o .answer)) (eqb (powerOnRefusal p) 0) _ _ (λ f. refl) (λ f. refl)) (λ e. refl)
 
   pub power-on-promised : (after : List ℕ) (n : ℕ) → called n after ≡ calledOf (powerOnLent block p) → PowerOnPromise block p after n
   power-on-promised after n e =
@@ -152,14 +152,14 @@ module _ (block : List ℕ) (r : ReadCall) (old : ℕ) where
       (λ f. ap machineBytes (read-kept m r) ∙ bytes-at block (eqb-true (length block) machineSize e)) (λ f. refl))
       (λ e. refl)
 
-  abbrev given-answer : model.Answer
+  abbrev given-answer : calls.Answer
   given-answer = callLent block (read r) .answer
 
   -- where it is refused none was read
   pub read-value : given-answer .value ≡ cond (eqb (given-answer .number) 0) (given-answer .value) 0
   unfolding callLent perform
   read-value =
-      let P : model.Answer → Type 0 = λ a. a .value ≡ cond (eqb (a .number) 0) (a .value) 0 in
+      let P : calls.Answer → Type 0 = λ a. a .value ≡ cond (eqb (a .number) 0) (a .value) 0 in
       on-cond (λ (x : Lent). P (x .answer)) (eqb (length block) machineSize) _ _
       (λ e.
       by-number (machineAt block) (read r) (λ o. P (o .answer)) (λ f. refl)
@@ -186,7 +186,7 @@ module _ (block : List ℕ) (r : ReadCall) (old : ℕ) where
       subst (λ (x : Outcome). ReadPromise block r old (readAnswered old (x .value) (x .answer) .value) (readAnswered old (x .value) (x .answer) .number))
       (sym (e ∙ ap (λ (x : Machine). outcomeOf (call x (read r))) w)) (go (eqb (a .number) 0) refl)
     where
-      a : model.Answer
+      a : calls.Answer
       a = call (machineAt block) (read r) .answer
 
       same : a ≡ given-answer

@@ -1,3 +1,3 @@
-pub mod Form
+pub mod Meaning
 pub mod Promises
 pub mod Executions

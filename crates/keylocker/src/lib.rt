@@ -2,7 +2,7 @@
 ghost use mathlib.Core.Path.{_≡_};
 ghost use lib.ListN.{length};
 ghost use Rattle.model.specs.Layout.{machineSize};
-ghost use Rattle.keylocker.specs.Form.{called, finished};
+ghost use Rattle.keylocker.specs.Meaning.{called, finished};
 ghost use Rattle.keylocker.specs.Promises.{PowerOnPromise, StepPromise, ReadPromise, WritePromise, SettlePromise, SleepPromise, ResetPromise};
 use layout::read_machine;
 use layout::write_machine;

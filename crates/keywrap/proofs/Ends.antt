@@ -18,7 +18,7 @@ use Rattle.polyval.proofs.Folding.{from-more}
 use Rattle.handle.specs.Format.{handle, aadOf, tagOf}
 use Rattle.handle.specs.Wrap.{hashed, clearTop, tag, counterBlocks, keystream, masked, wrapKey, decrypted, unwrapKey}
 use Rattle.handle.proofs.Wrap.{masked-length, handle-aad, handle-tag, handle-ciphertext}
-use Rattle.keywrap.specs.Form.{padded, paddedKey}
+use Rattle.keywrap.specs.Meaning.{padded, paddedKey}
 use Rattle.keywrap.proofs.Parts.{unpadded, handle-padded}
 
 padded-cond : (key : List ℕ) (b : Bool) → _≡_ {A = Option (List ℕ)} (cond b (some (padded 32 key)) none) (paddedKey (cond b (some key) none))

@@ -11,7 +11,7 @@ use Rattle.bits.specs.Bytes.{xorBytes}
 use Rattle.bits.proofs.Lists.{cons}
 use Rattle.bits.proofs.Xor.{xor-length}
 use Rattle.handle.specs.Format.{handle}
-use Rattle.keywrap.specs.Form.{padded}
+use Rattle.keywrap.specs.Meaning.{padded}
 
 xor-append : (k m k′ m′ : List ℕ) → length k ≡ length m → xorBytes (k ++ k′) (m ++ m′) ≡ xorBytes k m ++ xorBytes k′ m′
 xor-append [] [] k′ m′ h = refl

@@ -5,11 +5,11 @@ use Prim.Native.Nat.{ℕ, _+_, _*_, _≤_}
 use native.Mathlib.Omega.{arith}
 use lib.ListN.{length, take}
 use Rattle.fips197.specs.Sizes.{nk}
-use Rattle.aes.specs.Form.{keyBytes}
+use Rattle.aes.specs.Meaning.{keyBytes}
 use Rattle.aes.specs.declared.Key.{Key}
 use Rattle.fips197.specs.declared.KeySize.{KeySize}
 use Rattle.fips197.specs.declared.KeySize.the-variants.{Aes128, Aes256}
-use Rattle.keywrap.specs.Form.{handleBytes, wholeHandle}
+use Rattle.keywrap.specs.Meaning.{handleBytes, wholeHandle}
 use Rattle.keywrap.specs.declared.Handle.{Handle}
 
 -- the blocks of a key

@@ -6,7 +6,7 @@ ghost use lib.ListN.{length, drop};
 ghost use lib.Seq.{sets};
 ghost use Rattle.model.specs.Numbers.{part};
 ghost use Rattle.model.specs.Records.{processorLimit};
-ghost use Rattle.model.specs.Layout as model;
+ghost use Rattle.model.specs.Layout as layout;
 use model::IwKey;
 use model::Machine;
 use model::Platform;
@@ -63,8 +63,8 @@ fn bytes_32(s: &[u8], at: usize) -> [u8; 32]
 }
 
 fn key_at(s: &[u8], at: usize) -> IwKey
-    requires { ⌜ at + model.iwKeySize ≤ length (now s) ⌝ }
-    ensures { λ r. ⌜ r ≡ model.keyAt (drop at (now (s .entry))) ⌝ }
+    requires { ⌜ at + layout.iwKeySize ≤ length (now s) ⌝ }
+    ensures { λ r. ⌜ r ≡ layout.keyAt (drop at (now (s .entry))) ⌝ }
 {
     let integrity = bytes_16(s, at);
     let encryption = bytes_32(s, at + INTEGRITY_SIZE);
@@ -78,8 +78,8 @@ fn key_at(s: &[u8], at: usize) -> IwKey
 
 // "integrity key, encryption key, source, NoBackup, copy status"
 fn entry_at(s: &[u8], at: usize) -> Processor
-    requires { ⌜ at + model.entrySize ≤ length (now s) ⌝ }
-    ensures { λ r. ⌜ r ≡ model.entryAt (drop at (now (s .entry))) ⌝ }
+    requires { ⌜ at + layout.entrySize ≤ length (now s) ⌝ }
+    ensures { λ r. ⌜ r ≡ layout.entryAt (drop at (now (s .entry))) ⌝ }
 {
     let key = key_at(s, at);
     Processor {
@@ -89,17 +89,17 @@ fn entry_at(s: &[u8], at: usize) -> Processor
 }
 
 fn entry_number(s: &[u8], i: usize) -> Processor
-    requires { ⌜ length (now s) ≡ model.machineSize ⌝ }
+    requires { ⌜ length (now s) ≡ layout.machineSize ⌝ }
     requires { ⌜ i < processorLimit ⌝ }
-    ensures { λ r. ⌜ r ≡ model.entryAt (drop (2 + i * model.entrySize) (now (s .entry))) ⌝ }
+    ensures { λ r. ⌜ r ≡ layout.entryAt (drop (2 + i * layout.entrySize) (now (s .entry))) ⌝ }
 {
     entry_at(s, ENTRIES + i * ENTRY_SIZE)
 }
 
 // Written out: a loop would have to fill the array before, and took twice as long.
 fn entries(s: &[u8]) -> [Processor; 16]
-    requires { ⌜ length (now s) ≡ model.machineSize ⌝ }
-    ensures { λ r. ⌜ r ≡ model.entriesAt processorLimit (drop 2 (now (s .entry))) ⌝ }
+    requires { ⌜ length (now s) ≡ layout.machineSize ⌝ }
+    ensures { λ r. ⌜ r ≡ layout.entriesAt processorLimit (drop 2 (now (s .entry))) ⌝ }
 {
     [
         entry_number(s, 0),
@@ -123,8 +123,8 @@ fn entries(s: &[u8]) -> [Processor; 16]
 
 // "each a presence byte and an IWKey"
 fn slot_at(s: &[u8], at: usize) -> Slot
-    requires { ⌜ at + model.slotSize ≤ length (now s) ⌝ }
-    ensures { λ r. ⌜ r ≡ model.slotAt (drop at (now (s .entry))) ⌝ }
+    requires { ⌜ at + layout.slotSize ≤ length (now s) ⌝ }
+    ensures { λ r. ⌜ r ≡ layout.slotAt (drop at (now (s .entry))) ⌝ }
 {
     let key = key_at(s, at + 1);
     Slot {
@@ -135,8 +135,8 @@ fn slot_at(s: &[u8], at: usize) -> Slot
 
 // "backup, then store, ..; pending, valid, error, consumed"
 fn platform_at(s: &[u8], at: usize) -> Platform
-    requires { ⌜ at + model.platformSize ≤ length (now s) ⌝ }
-    ensures { λ r. ⌜ r ≡ model.platformAt (drop at (now (s .entry))) ⌝ }
+    requires { ⌜ at + layout.platformSize ≤ length (now s) ⌝ }
+    ensures { λ r. ⌜ r ≡ layout.platformAt (drop at (now (s .entry))) ⌝ }
 {
     let backup = slot_at(s, at);
     let store = slot_at(s, at + SLOT_SIZE);
@@ -152,8 +152,8 @@ fn platform_at(s: &[u8], at: usize) -> Platform
 
 // "count; features; 16 entries ..", then the platform
 pub fn read_machine(s: &[u8]) -> Machine
-    requires { ⌜ length (now s) ≡ model.machineSize ⌝ }
-    ensures { λ r. ⌜ r ≡ model.machineAt (now (s .entry)) ⌝ }
+    requires { ⌜ length (now s) ≡ layout.machineSize ⌝ }
+    ensures { λ r. ⌜ r ≡ layout.machineAt (now (s .entry)) ⌝ }
 {
     let processors = entries(s);
     let platform = platform_at(s, PLATFORM);
@@ -187,8 +187,8 @@ fn put_32(s: &mut [u8], at: usize, a: [u8; 32])
 
 // From here on each function also says how many bytes it wrote, so that its caller knows where the next run begins.
 fn put_key(s: &mut [u8], at: usize, k: IwKey)
-    requires { ⌜ at + model.iwKeySize ≤ length (now s) ⌝ }
-    ensures { λ _. ⌜ (now (s .exit) ≡ sets (now (s .entry)) at (model.keyBytes k)) × (length (model.keyBytes k) ≡ model.iwKeySize) ⌝ }
+    requires { ⌜ at + layout.iwKeySize ≤ length (now s) ⌝ }
+    ensures { λ _. ⌜ (now (s .exit) ≡ sets (now (s .entry)) at (layout.keyBytes k)) × (length (layout.keyBytes k) ≡ layout.iwKeySize) ⌝ }
 {
     let integrity = k.integrity;
     let encryption = k.encryption;
@@ -199,8 +199,8 @@ fn put_key(s: &mut [u8], at: usize, k: IwKey)
 }
 
 fn put_entry(s: &mut [u8], at: usize, e: Processor)
-    requires { ⌜ at + model.entrySize ≤ length (now s) ⌝ }
-    ensures { λ _. ⌜ (now (s .exit) ≡ sets (now (s .entry)) at (model.entryBytes e)) × (length (model.entryBytes e) ≡ model.entrySize) ⌝ }
+    requires { ⌜ at + layout.entrySize ≤ length (now s) ⌝ }
+    ensures { λ _. ⌜ (now (s .exit) ≡ sets (now (s .entry)) at (layout.entryBytes e)) × (length (layout.entryBytes e) ≡ layout.entrySize) ⌝ }
 {
     let key = e.key;
     put_key(s, at, key);
@@ -208,8 +208,8 @@ fn put_entry(s: &mut [u8], at: usize, e: Processor)
 }
 
 fn put_entries(s: &mut [u8], at: usize, l: [Processor; 16])
-    requires { ⌜ at + processorLimit * model.entrySize ≤ length (now s) ⌝ }
-    ensures { λ _. ⌜ (now (s .exit) ≡ sets (now (s .entry)) at (model.entriesBytes l)) × (length (model.entriesBytes l) ≡ processorLimit * model.entrySize) ⌝ }
+    requires { ⌜ at + processorLimit * layout.entrySize ≤ length (now s) ⌝ }
+    ensures { λ _. ⌜ (now (s .exit) ≡ sets (now (s .entry)) at (layout.entriesBytes l)) × (length (layout.entriesBytes l) ≡ processorLimit * layout.entrySize) ⌝ }
 {
     for i in 0..16usize {
         let e = l[i];
@@ -218,8 +218,8 @@ fn put_entries(s: &mut [u8], at: usize, l: [Processor; 16])
 }
 
 fn put_slot(s: &mut [u8], at: usize, t: Slot)
-    requires { ⌜ at + model.slotSize ≤ length (now s) ⌝ }
-    ensures { λ _. ⌜ (now (s .exit) ≡ sets (now (s .entry)) at (model.slotBytes t)) × (length (model.slotBytes t) ≡ model.slotSize) ⌝ }
+    requires { ⌜ at + layout.slotSize ≤ length (now s) ⌝ }
+    ensures { λ _. ⌜ (now (s .exit) ≡ sets (now (s .entry)) at (layout.slotBytes t)) × (length (layout.slotBytes t) ≡ layout.slotSize) ⌝ }
 {
     let key = t.key;
     s[at] = t.present;
@@ -227,8 +227,8 @@ fn put_slot(s: &mut [u8], at: usize, t: Slot)
 }
 
 fn put_platform(s: &mut [u8], at: usize, f: Platform)
-    requires { ⌜ at + model.platformSize ≤ length (now s) ⌝ }
-    ensures { λ _. ⌜ (now (s .exit) ≡ sets (now (s .entry)) at (model.platformBytes f)) × (length (model.platformBytes f) ≡ model.platformSize) ⌝ }
+    requires { ⌜ at + layout.platformSize ≤ length (now s) ⌝ }
+    ensures { λ _. ⌜ (now (s .exit) ≡ sets (now (s .entry)) at (layout.platformBytes f)) × (length (layout.platformBytes f) ≡ layout.platformSize) ⌝ }
 {
     let backup = f.backup;
     let store = f.store;
@@ -241,8 +241,8 @@ fn put_platform(s: &mut [u8], at: usize, f: Platform)
 }
 
 pub fn write_machine(s: &mut [u8], m: Machine)
-    requires { ⌜ length (now s) ≡ model.machineSize ⌝ }
-    ensures { λ _. ⌜ now (s .exit) ≡ model.machineBytes m ⌝ }
+    requires { ⌜ length (now s) ≡ layout.machineSize ⌝ }
+    ensures { λ _. ⌜ now (s .exit) ≡ layout.machineBytes m ⌝ }
 {
     let processors = m.processors;
     let platform = m.platform;

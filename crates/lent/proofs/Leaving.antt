@@ -13,11 +13,11 @@ use Rattle.model.specs.Execution.{viewOf, call}
 use Rattle.model.specs.declared.Machine.{Machine}
 use Rattle.model.proofs.Frames.{call-number, accepted-parts, refused-kept}
 use Rattle.model.proofs.Refusals.{cpu-length}
-use Rattle.machine.specs.Form.{answerOf, steppedOf}
+use Rattle.machine.specs.Meaning.{answerOf, steppedOf}
 use Rattle.machine.specs.declared.Answer.{Answer}
 use Rattle.machine.specs.declared.Answer.the-variants.{Done, Refused}
 use Rattle.machine.specs.declared.Stepped.{Stepped}
-use Rattle.lent.specs.Form.{left, leftOf}
+use Rattle.lent.specs.Meaning.{left, leftOf}
 
 isRefused : Answer → Type 0
 isRefused Done = ⊥

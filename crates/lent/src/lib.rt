@@ -5,8 +5,8 @@ ghost use mathlib.Core.Path.{_≡_};
 ghost use lib.ListN.{length};
 ghost use Rattle.model.specs.Calls.{step};
 ghost use Rattle.model.specs.Cpu.{cpuSize};
-ghost use Rattle.model.specs.Execution as model;
-ghost use Rattle.lent.specs.Form.{left, leftOf};
+ghost use Rattle.model.specs.Execution as execution;
+ghost use Rattle.lent.specs.Meaning.{left, leftOf};
 use machine::Answer;
 use model::Machine;
 
@@ -34,7 +34,7 @@ fn take_step(
     random: &[u8],
     string: &[u8],
 ) -> Taken
-    ensures { λ r. ⌜ left (r .answer) (r .machine) (now (cpu .exit)) ≡ leftOf (model.call m (step (record { processor = processor; cpu = now (cpu .entry); memory = now (memory .entry); random = now (random .entry); string = now (string .entry) }))) ⌝ }
+    ensures { λ r. ⌜ left (r .answer) (r .machine) (now (cpu .exit)) ≡ leftOf (execution.call m (step (record { processor = processor; cpu = now (cpu .entry); memory = now (memory .entry); random = now (random .entry); string = now (string .entry) }))) ⌝ }
 {
     let r = machine::step(m, processor, cpu, memory, random, string);
     let machine = r.machine;
@@ -57,7 +57,7 @@ pub fn step_lent(
     random: &[u8],
     string: &[u8],
 ) -> Answer
-    ensures { λ r. ⌜ left r (now (m .exit)) (now (cpu .exit)) ≡ leftOf (model.call (now (m .entry)) (step (record { processor = processor; cpu = now (cpu .entry); memory = now (memory .entry); random = now (random .entry); string = now (string .entry) }))) ⌝ }
+    ensures { λ r. ⌜ left r (now (m .exit)) (now (cpu .exit)) ≡ leftOf (execution.call (now (m .entry)) (step (record { processor = processor; cpu = now (cpu .entry); memory = now (memory .entry); random = now (random .entry); string = now (string .entry) }))) ⌝ }
 {
     let r = take_step(*m, processor, cpu, memory, random, string);
     *m = r.machine;
@@ -73,7 +73,7 @@ pub fn step_through(
     random: &[u8],
     string: &[u8],
 ) -> Taken
-    ensures { λ t. ⌜ left (t .answer) (t .machine) (now (cpu .exit)) ≡ leftOf (model.call m (step (record { processor = processor; cpu = now (cpu .entry); memory = now (memory .entry); random = now (random .entry); string = now (string .entry) }))) ⌝ }
+    ensures { λ t. ⌜ left (t .answer) (t .machine) (now (cpu .exit)) ≡ leftOf (execution.call m (step (record { processor = processor; cpu = now (cpu .entry); memory = now (memory .entry); random = now (random .entry); string = now (string .entry) }))) ⌝ }
 {
     let mut n = m;
     let answer = step_lent(&mut n, processor, cpu, memory, random, string);

@@ -4,8 +4,8 @@ ghost use lib.ListN.{length};
 ghost use Rattle.bits.specs.Bytes.{xorBytes};
 ghost use Rattle.model.specs.Cpu.{cpuSize};
 ghost use Rattle.model.specs.Forms.{keySource, noBackup};
-ghost use Rattle.model.specs.Instructions as model;
-ghost use Rattle.loadiwkey.specs.Form.{randomData, executedOf};
+ghost use Rattle.model.specs.Instructions as instructions;
+ghost use Rattle.loadiwkey.specs.Meaning.{randomData, executedOf};
 use aes::word::put_block;
 use aes::word::to_bytes;
 use cpu::put_zf;
@@ -46,7 +46,7 @@ fn no_backup(cpu: &[u8]) -> u8
 // The encryption key's low half is SRC2 and its high half SRC1; the integrity key is XMM0.
 fn plain_key(l: LoadIwKey, cpu: &[u8]) -> IwKey
     requires { ⌜ length (now cpu) ≡ cpuSize ⌝ }
-    ensures { λ r. ⌜ r ≡ model.plainKey l (now (cpu .entry)) ⌝ }
+    ensures { λ r. ⌜ r ≡ instructions.plainKey l (now (cpu .entry)) ⌝ }
 {
     let src2 = l.src2;
     let low = xmm(cpu, register_of(src2));
@@ -74,7 +74,7 @@ fn xor_in(s: &mut [u8], other: &[u8])
 
 // Random bytes 0 to 31 go into the encryption key, 32 to 47 into the integrity key.
 fn mixed(k: IwKey, random: [u8; 48]) -> IwKey
-    ensures { λ r. ⌜ r ≡ model.mixedWith random k ⌝ }
+    ensures { λ r. ⌜ r ≡ instructions.mixedWith random k ⌝ }
 {
     let mut encryption = k.encryption;
     let mut integrity = k.integrity;
@@ -90,7 +90,7 @@ fn mixed(k: IwKey, random: [u8; 48]) -> IwKey
 
 // Not ready at key source 1: ZF is 1 and the IWKey is kept.
 pub fn load(l: LoadIwKey, random: Random, k: IwKey, cpu: [u8; 408]) -> Executed
-    ensures { λ r. ⌜ executedOf r ≡ model.load l (randomData random) k cpu ⌝ }
+    ensures { λ r. ⌜ executedOf r ≡ instructions.load l (randomData random) k cpu ⌝ }
 {
     let source = key_source(&cpu);
     let plain = plain_key(l, &cpu);

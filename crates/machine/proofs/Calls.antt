@@ -9,7 +9,7 @@ use lib.ListN.{replicate}
 use borrow.Author.Tests.{ne-eqb, not-true, not-false, le-leb, lt-leb}
 use native.Mathlib.Nat.{suc-ne-zero}
 use Rattle.bits.proofs.Choice.{cond-on, cond-off}
-use Rattle.model.specs.Calls as model
+use Rattle.model.specs.Calls as calls
 use Rattle.model.specs.Calls.{PowerOn, Call, settle, sleep, reset}
 use Rattle.model.specs.Validity.{validCount, validFeatures, valid}
 use Rattle.model.specs.Refusals.{View, tests, refusal}
@@ -18,7 +18,7 @@ use Rattle.model.specs.Records.{processorLimit, zeroProcessor}
 use Rattle.model.specs.declared.Machine.{Machine}
 use Rattle.model.specs.declared.Platform.{Platform}
 use Rattle.model.proofs.Frames.{call-performed, call-stopped}
-use Rattle.machine.specs.Form.{answerOf, outcomeOf}
+use Rattle.machine.specs.Meaning.{answerOf, outcomeOf}
 use Rattle.machine.specs.declared.Answer.the-variants.{Done, Refused}
 use Rattle.machine.specs.declared.Outcome.{Outcome}
 
@@ -105,7 +105,7 @@ reset-refusal v = refl
 -- ---- power-on
 
 module _ (p : PowerOn) where
-  power : Bool → model.Outcome
+  power : Bool → calls.Outcome
   power t =
       cond (eqb (cond (not t) 1 0) 0) (done (fresh (p .count) (p .features)) [] 0)
       (record { machine = fresh 0 0; answer = record { number = cond (not t) 1 0; cpu = []; buffer = []; value = 0 } })

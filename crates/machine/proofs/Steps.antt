@@ -27,7 +27,7 @@ use Rattle.model.specs.declared.Machine.{Machine}
 use Rattle.model.specs.declared.Processor.{Processor}
 use Rattle.model.proofs.Refusals.{processor-below, step-asked}
 use Rattle.model.proofs.Validities.{count-few}
-use Rattle.machine.specs.Form.{outcomeOf, steppedOf}
+use Rattle.machine.specs.Meaning.{outcomeOf, steppedOf}
 use Rattle.machine.specs.declared.Answer.the-variants.{Done, Refused}
 use Rattle.machine.specs.declared.Stepped.{Stepped}
 use Rattle.machine.proofs.Calls.{answer-refused, performed, doneWith}

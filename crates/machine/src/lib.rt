@@ -6,17 +6,17 @@ ghost use mathlib.Core.Option.{some};
 ghost use Rattle.isa.specs.Ranges.{handleLength};
 ghost use Rattle.isa.specs.declared.Decoded.the-variants as decoded;
 ghost use Rattle.isa.specs.declared.Instruction.{Instruction};
-ghost use Rattle.loadiwkey.specs.Form.{randomData, executedOf};
+ghost use Rattle.loadiwkey.specs.Meaning.{randomData, executedOf};
 ghost use Rattle.model.specs.Calls.{step, read, write, settle, sleep, reset};
 ghost use Rattle.model.specs.Cpu.{cpuSize};
 ghost use Rattle.model.specs.Forms.{Form, formOf, handleAddress};
 ghost use Rattle.model.specs.Instructions as instructions;
 ghost use Rattle.model.specs.Refusals.{randomLength};
-ghost use Rattle.model.specs.Execution as model;
+ghost use Rattle.model.specs.Execution as execution;
 ghost use Rattle.model.specs.Records.{processorLimit, zeroKey, zeroProcessor, noProcessor, withKey, withProcessors};
 ghost use Prim.Native.Nat.{ℕ, _+_, _%_, _≤_};
 ghost use lib.ListN.{length, getD, set, replicate};
-ghost use Rattle.machine.specs.Form.{outcomeOf, steppedOf};
+ghost use Rattle.machine.specs.Meaning.{outcomeOf, steppedOf};
 ghost use Rattle.machine.specs.declared.Answer.the-variants.{Done, Refused};
 use instructions::advance;
 use instructions::execute;
@@ -78,7 +78,7 @@ fn zero_processor() -> Processor
 }
 
 fn zero_platform() -> Platform
-    ensures { λ r. ⌜ r ≡ model.zeroPlatform ⌝ }
+    ensures { λ r. ⌜ r ≡ execution.zeroPlatform ⌝ }
 {
     let absent = Slot {
         present: 0,
@@ -143,7 +143,7 @@ fn with_processor(m: Machine, p: u8, e: Processor) -> Machine
 }
 
 pub fn power_on(count: u8, features: u8) -> Outcome
-    ensures { λ r. ⌜ r ≡ outcomeOf (model.powerOn (record { count = count; features = features })) ⌝ }
+    ensures { λ r. ⌜ r ≡ outcomeOf (execution.powerOn (record { count = count; features = features })) ⌝ }
 {
     if (1 <= count) & (count <= 16) & (features < 64) {
         return done(zeroed(count, features, zero_platform()));
@@ -152,7 +152,7 @@ pub fn power_on(count: u8, features: u8) -> Outcome
 }
 
 pub fn settle(m: Machine, code: u8) -> Outcome
-    ensures { λ r. ⌜ r ≡ outcomeOf (model.call m (settle (record { code = code }))) ⌝ }
+    ensures { λ r. ⌜ r ≡ outcomeOf (execution.call m (settle (record { code = code }))) ⌝ }
 {
     if !valid(m) {
         return refused(m, 1);
@@ -167,7 +167,7 @@ pub fn settle(m: Machine, code: u8) -> Outcome
 }
 
 pub fn sleep(m: Machine, code: u8) -> Outcome
-    ensures { λ r. ⌜ r ≡ outcomeOf (model.call m (sleep (record { code = code }))) ⌝ }
+    ensures { λ r. ⌜ r ≡ outcomeOf (execution.call m (sleep (record { code = code }))) ⌝ }
 {
     if !valid(m) {
         return refused(m, 1);
@@ -180,7 +180,7 @@ pub fn sleep(m: Machine, code: u8) -> Outcome
 }
 
 pub fn reset(m: Machine) -> Outcome
-    ensures { λ r. ⌜ r ≡ outcomeOf (model.call m reset) ⌝ }
+    ensures { λ r. ⌜ r ≡ outcomeOf (execution.call m reset) ⌝ }
 {
     if !valid(m) {
         return refused(m, 1);
@@ -191,7 +191,7 @@ pub fn reset(m: Machine) -> Outcome
 // ---- the backup registers
 
 pub fn read(m: Machine, processor: u8, cpl: u8, address: u32) -> Outcome
-    ensures { λ r. ⌜ r ≡ outcomeOf (model.call m (read (record { processor = processor; cpl = cpl; address = address }))) ⌝ }
+    ensures { λ r. ⌜ r ≡ outcomeOf (execution.call m (read (record { processor = processor; cpl = cpl; address = address }))) ⌝ }
 {
     if !valid(m) {
         return refused(m, 1);
@@ -210,7 +210,7 @@ pub fn read(m: Machine, processor: u8, cpl: u8, address: u32) -> Outcome
 }
 
 pub fn write(m: Machine, processor: u8, cpl: u8, address: u32, value: u64) -> Outcome
-    ensures { λ r. ⌜ r ≡ outcomeOf (model.call m (write (record { processor = processor; cpl = cpl; address = address; value = value }))) ⌝ }
+    ensures { λ r. ⌜ r ≡ outcomeOf (execution.call m (write (record { processor = processor; cpl = cpl; address = address; value = value }))) ⌝ }
 {
     if !valid(m) {
         return refused(m, 1);
@@ -303,7 +303,7 @@ pub fn step(
     random: &[u8],
     string: &[u8],
 ) -> Stepped
-    ensures { λ r. ⌜ r ≡ steppedOf (model.call m (step (record { processor = processor; cpu = now (cpu .entry); memory = now (memory .entry); random = now (random .entry); string = now (string .entry) }))) ⌝ }
+    ensures { λ r. ⌜ r ≡ steppedOf (execution.call m (step (record { processor = processor; cpu = now (cpu .entry); memory = now (memory .entry); random = now (random .entry); string = now (string .entry) }))) ⌝ }
 {
     if !valid(m) {
         return refused_step(m, 1);

@@ -25,7 +25,7 @@ use Rattle.model.specs.Instructions.{encoded, openedFor, aes, ciphered, 
 use Rattle.model.specs.Backup.{copyOut, settled, woken}
 use Rattle.model.specs.Execution.{perform, call}
 use Rattle.model.specs.declared.IwKey.{IwKey}
-use Rattle.model.specs.Examples.{Every, rax, rip, cpu, randomKey, examples}
+use Rattle.model.specs.Examples.{AllFulfilled, rax, rip, cpu, randomKey, examples}
 use Rattle.model.proofs.Uses.{aes-length}
 
 -- ---- the examples that encode: what is seen of them does not depend on the tag and the ciphertext
@@ -80,7 +80,7 @@ infixr 67 _also_
 _also_ : {A B : Type 0} → A → B → A × B
 a also b = (a, b)
 
-pub all-hold : Every examples
+pub all-hold : AllFulfilled examples
 unfolding call valid validProcessors refusal tests perform executed encoded used loadedKey copyOut settled woken
     decodeAt modrmOf sibOf indexOf displacementAt displacement32 instructionOf effectiveAddress someNotCanonical someOutside
 all-hold =

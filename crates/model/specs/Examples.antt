@@ -78,13 +78,13 @@ Seen (ripIs x) c o = Cpu.rip (o .answer .cpu) ≡ x
 Seen (rflagsIs x) c o = rflags (o .answer .cpu) ≡ x
 Seen (valueIs x) c o = o .answer .value ≡ x
 
-abbrev pub Holds : Example → Type 0
-Holds e = (outcome e .answer .number ≡ e .number) × Seen (e .sight) (e .last) (outcome e)
+abbrev pub Fulfilled : Example → Type 0
+Fulfilled e = (outcome e .answer .number ≡ e .number) × Seen (e .sight) (e .last) (outcome e)
 
 -- every example of a list holds
-abbrev pub Every : List Example → Type 0
-Every [] = Unit {0}
-Every (e ∷ l) = Holds e × Every l
+abbrev pub AllFulfilled : List Example → Type 0
+AllFulfilled [] = Unit {0}
+AllFulfilled (e ∷ l) = Fulfilled e × AllFulfilled l
 
 -- ---- "Control bits 3, all features, CPL 0 unless said."
 

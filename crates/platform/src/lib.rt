@@ -2,8 +2,8 @@
 ghost use mathlib.Core.Path.{_≡_};
 ghost use mathlib.Core.Bool.{cond};
 ghost use Rattle.model.specs.Records as records;
-ghost use Rattle.model.specs.Backup as model;
-ghost use Rattle.platform.specs.Form.{copiedOf};
+ghost use Rattle.model.specs.Backup as backup;
+ghost use Rattle.platform.specs.Meaning.{copiedOf};
 use model::IwKey;
 use model::Platform;
 use model::Processor;
@@ -27,7 +27,7 @@ fn with_copy_status(status: u8, e: Processor) -> Processor
 
 // "Write 0xD91, bit 0 set": IWKeyBackup is not replaced while the storage is still at work on it.
 fn copy_out(e: Processor, f: Platform) -> Copied
-    ensures { λ r. ⌜ copiedOf r ≡ model.copyOut e f ⌝ }
+    ensures { λ r. ⌜ copiedOf r ≡ backup.copyOut e f ⌝ }
 {
     let key = e.key;
     if (key.no_backup == 1) | (f.pending == 1) {
@@ -51,7 +51,7 @@ fn copy_out(e: Processor, f: Platform) -> Copied
 
 // "Write 0xD92, bit 0 set: fails (copy status 0) if backup is absent"
 fn copy_in(e: Processor, f: Platform) -> Copied
-    ensures { λ r. ⌜ copiedOf r ≡ model.copyIn e f ⌝ }
+    ensures { λ r. ⌜ copiedOf r ≡ backup.copyIn e f ⌝ }
 {
     let backup = f.backup;
     if backup.present == 1 {
@@ -72,7 +72,7 @@ fn copy_in(e: Processor, f: Platform) -> Copied
 
 // "Writing 0 does nothing."
 pub fn write_register(address: u32, value: u64, e: Processor, f: Platform) -> Copied
-    ensures { λ r. ⌜ copiedOf r ≡ model.written address value e f ⌝ }
+    ensures { λ r. ⌜ copiedOf r ≡ backup.written address value e f ⌝ }
 {
     if value % 2 == 1 {
         if address == 0xD91 {
@@ -88,7 +88,7 @@ pub fn write_register(address: u32, value: u64, e: Processor, f: Platform) -> Co
 
 // "Read 0x990": IA32_COPY_STATUS. "Read 0x991": IA32_IWKEYBACKUP_STATUS, "valid in bit 0, error 2, consumed 3".
 pub fn read_register(address: u32, e: Processor, f: Platform) -> u64
-    ensures { λ r. ⌜ r ≡ model.registerRead address e f ⌝ }
+    ensures { λ r. ⌜ r ≡ backup.registerRead address e f ⌝ }
 {
     if address == 0x990 {
         return e.copy_status as u64;
@@ -112,7 +112,7 @@ fn absent() -> Slot
 
 // "settle (0 good, 1 bad) acts only when pending."
 pub fn settle(code: u8, f: Platform) -> Platform
-    ensures { λ r. ⌜ r ≡ model.settled code f ⌝ }
+    ensures { λ r. ⌜ r ≡ backup.settled code f ⌝ }
 {
     if f.pending == 1 {
         let backup = f.backup;
@@ -140,7 +140,7 @@ pub fn settle(code: u8, f: Platform) -> Platform
 
 // "If pending, the store becomes what it was, the backup, or junk; if not, only code 2 alters it." Junk is an absent store.
 fn store_kept(code: u8, f: Platform) -> Slot
-    ensures { λ r. ⌜ r ≡ model.storeKept code f ⌝ }
+    ensures { λ r. ⌜ r ≡ backup.storeKept code f ⌝ }
 {
     if code == 2 {
         return absent();
@@ -162,7 +162,7 @@ fn one_if(b: bool) -> u8
 
 // "Else backup := store, error 0, valid 1 exactly if present. Pending 0."
 pub fn wake(code: u8, f: Platform) -> Platform
-    ensures { λ r. ⌜ r ≡ model.woken code f ⌝ }
+    ensures { λ r. ⌜ r ≡ backup.woken code f ⌝ }
 {
     let kept = store_kept(code, f);
     Platform {

@@ -3,7 +3,7 @@ ghost use mathlib.Core.Path.{_≡_};
 ghost use Prim.Native.Nat.{_+_, _*_, _/_, _^_, _<_};
 ghost use Rattle.rfc8452.specs.Field as rfc;
 ghost use Rattle.rfc8452.specs.Field.{timesXTo};
-ghost use Rattle.polyval.specs.Form.{num, value, first, MultiplesTable};
+ghost use Rattle.polyval.specs.Meaning.{num, value, first, MultiplesTable};
 use crate::Element;
 use crate::Wide;
 use crate::table::entry;

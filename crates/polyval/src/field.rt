@@ -2,9 +2,9 @@
 ghost use mathlib.Core.Path.{_≡_};
 ghost use mathlib.Core.List.{_++_};
 ghost use Rattle.bits.specs.Words.{leBytes, leValue};
-ghost use Rattle.aes.specs.Form.{bytesOf};
+ghost use Rattle.aes.specs.Meaning.{bytesOf};
 ghost use Rattle.rfc8452.specs.Field as rfc;
-ghost use Rattle.polyval.specs.Form.{num};
+ghost use Rattle.polyval.specs.Meaning.{num};
 use crate::Element;
 use aes::Block;
 

@@ -1,9 +1,9 @@
 // A step of POLYVAL.
 ghost use mathlib.Core.Path.{_≡_};
 ghost use Rattle.bits.specs.Words.{leValue};
-ghost use Rattle.aes.specs.Form.{bytesOf};
+ghost use Rattle.aes.specs.Meaning.{bytesOf};
 ghost use Rattle.rfc8452.specs.Field as rfc;
-ghost use Rattle.polyval.specs.Form.{num, first, MultiplesTable};
+ghost use Rattle.polyval.specs.Meaning.{num, first, MultiplesTable};
 use crate::Element;
 use crate::dot::dot;
 use crate::field::add;

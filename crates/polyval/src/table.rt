@@ -2,7 +2,7 @@
 ghost use mathlib.Core.Path.{_≡_};
 ghost use Prim.Native.Nat.{_+_, _*_, _^_, _%_, _<_};
 ghost use lib.ListN.{getD, set};
-ghost use Rattle.polyval.specs.Form.{num, first, MultiplesTable};
+ghost use Rattle.polyval.specs.Meaning.{num, first, MultiplesTable};
 use crate::Element;
 use crate::field::add;
 use crate::field::times_x;

@@ -6,7 +6,7 @@ ghost use lib.Dec.{leb, ltb};
 ghost use lib.ListN.{length};
 ghost use Rattle.isa.specs.declared.Decoded as decoded;
 ghost use Rattle.isa.specs.declared.Decoded.the-variants.{Found};
-ghost use Rattle.model.specs.Numbers as model;
+ghost use Rattle.model.specs.Numbers as numbers;
 ghost use Rattle.model.specs.Cpu.{cpuSize};
 ghost use Rattle.model.specs.Forms.{handleAddress};
 ghost use Rattle.model.specs.Calls.{read, write};
@@ -59,7 +59,7 @@ const RANDOM_SIZE: usize = 48;
 
 fn bit(i: u8, x: u8) -> bool
     requires { ⌜ i < 8 ⌝ }
-    ensures { λ r. ⌜ r ≡ model.bit i x ⌝ }
+    ensures { λ r. ⌜ r ≡ numbers.bit i x ⌝ }
 {
     (x >> i) % 2 == 1
 }

@@ -2,7 +2,7 @@
 // exit is compiled to a few wide compares.
 ghost use mathlib.Core.Path.{_≡_};
 ghost use Rattle.model.specs.Numbers.{allZero};
-ghost use Rattle.model.specs.Validity as model;
+ghost use Rattle.model.specs.Validity as validity;
 use model::IwKey;
 use model::Machine;
 use model::Platform;
@@ -30,7 +30,7 @@ fn zero_32(a: [u8; 32]) -> bool
 }
 
 fn zero_key(k: IwKey) -> bool
-    ensures { λ r. ⌜ r ≡ model.isZeroKey k ⌝ }
+    ensures { λ r. ⌜ r ≡ validity.isZeroKey k ⌝ }
 {
     let integrity = k.integrity;
     let encryption = k.encryption;
@@ -39,14 +39,14 @@ fn zero_key(k: IwKey) -> bool
 
 // "a stored key source or flag above 1"
 fn valid_key(k: IwKey) -> bool
-    ensures { λ r. ⌜ r ≡ model.validKey k ⌝ }
+    ensures { λ r. ⌜ r ≡ validity.validKey k ⌝ }
 {
     (k.source < 2) & (k.no_backup < 2)
 }
 
 // "something other than zero in an entry past the count"
 fn valid_processor(below: bool, e: Processor) -> bool
-    ensures { λ r. ⌜ r ≡ model.validProcessor below e ⌝ }
+    ensures { λ r. ⌜ r ≡ validity.validProcessor below e ⌝ }
 {
     let k = e.key;
     if below {
@@ -56,7 +56,7 @@ fn valid_processor(below: bool, e: Processor) -> bool
 }
 
 fn valid_processors(count: usize, l: [Processor; 16]) -> bool
-    ensures { λ r. ⌜ r ≡ model.validProcessors count 0 l ⌝ }
+    ensures { λ r. ⌜ r ≡ validity.validProcessors count 0 l ⌝ }
 {
     let mut z = true;
     for i in 0..16usize {
@@ -68,7 +68,7 @@ fn valid_processors(count: usize, l: [Processor; 16]) -> bool
 
 // "or an absent IWKey"
 fn valid_slot(s: Slot) -> bool
-    ensures { λ r. ⌜ r ≡ model.validSlot s ⌝ }
+    ensures { λ r. ⌜ r ≡ validity.validSlot s ⌝ }
 {
     let k = s.key;
     let flag = s.present < 2;
@@ -79,7 +79,7 @@ fn valid_slot(s: Slot) -> bool
 }
 
 fn valid_platform(f: Platform) -> bool
-    ensures { λ r. ⌜ r ≡ model.validPlatform f ⌝ }
+    ensures { λ r. ⌜ r ≡ validity.validPlatform f ⌝ }
 {
     let backup = f.backup;
     let store = f.store;
@@ -92,7 +92,7 @@ fn valid_platform(f: Platform) -> bool
 }
 
 pub fn valid(m: Machine) -> bool
-    ensures { λ r. ⌜ r ≡ model.valid m ⌝ }
+    ensures { λ r. ⌜ r ≡ validity.valid m ⌝ }
 {
     let processors = m.processors;
     let platform = m.platform;

@@ -1,6 +1,6 @@
 use mathlib.Core.Path.{_∙_}
 use native.Mathlib.Omega.{arith}
-use Rattle.aes.specs.Form.{bytesOf}
+use Rattle.aes.specs.Meaning.{bytesOf}
 use Rattle.aes.proofs.Schedule.{rounds-few, inv-cipher-schedule}
 use borrow.Author.Needs.{needs}
 use Rattle.aes_blocks.proofs.decrypt_block.Statement.{statement}

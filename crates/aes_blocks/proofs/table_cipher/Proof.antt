@@ -6,7 +6,7 @@ use native.Mathlib.Omega.{arith}
 use borrow.Author.Needs.{needs}
 use Rattle.bits.specs.Words.{leWords}
 use Rattle.fips197.specs.Cipher.{rounds}
-use Rattle.aes.specs.Form.{bytesOf}
+use Rattle.aes.specs.Meaning.{bytesOf}
 use Rattle.aes.proofs.Rounds.{rounds-more, cipher-ends}
 use Rattle.aes_blocks.proofs.table_cipher.Statement.{statement}
 use Rattle.aes_blocks.proofs.table_cipher.Tie as tie

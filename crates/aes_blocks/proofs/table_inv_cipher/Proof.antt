@@ -6,7 +6,7 @@ use native.Mathlib.Omega.{arith}
 use borrow.Author.Needs.{needs}
 use Rattle.bits.specs.Words.{leWords}
 use Rattle.fips197.specs.InvCipher.{invRounds}
-use Rattle.aes.specs.Form.{bytesOf}
+use Rattle.aes.specs.Meaning.{bytesOf}
 use Rattle.aes.proofs.Rounds.{inv-rounds-more, inv-cipher-ends}
 use Rattle.aes_blocks.proofs.Equivalent.{equivalent-round}
 use Rattle.aes_blocks.proofs.table_inv_cipher.Statement.{statement}

@@ -2,7 +2,7 @@ use mathlib.Core.Path.{ap, _∙_}
 use mathlib.Core.List.{List}
 use Prim.Native.Nat.{ℕ}
 use Rattle.fips197.specs.Cipher.{addRoundKey}
-use Rattle.aes.specs.Form.{bytesOf}
+use Rattle.aes.specs.Meaning.{bytesOf}
 use borrow.Author.Needs.{needs}
 use Rattle.aes_blocks.proofs.table_inv_round.Statement.{statement}
 use Rattle.aes_blocks.proofs.table_inv_round.Tie as tie

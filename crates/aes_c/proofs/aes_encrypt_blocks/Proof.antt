@@ -4,7 +4,7 @@ use lib.ListN.{length}
 use Rattle.bits.specs.Blocks.{mapBlocks}
 use Rattle.fips197.specs.Cipher.{cipher}
 use Rattle.fips197.specs.Sizes.{nr}
-use Rattle.aes.specs.Form.{schedule}
+use Rattle.aes.specs.Meaning.{schedule}
 use Rattle.fips197.specs.declared.KeySize.{KeySize}
 use borrow.Author.Needs.{needs}
 use Rattle.aes_c.proofs.aes_encrypt_blocks.Statement.{statement}

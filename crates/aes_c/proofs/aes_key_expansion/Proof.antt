@@ -3,7 +3,7 @@ use mathlib.Core.List.{List}
 use Prim.Native.Nat.{ℕ, _*_}
 use lib.ListN.{take}
 use Rattle.fips197.specs.Sizes.{nk}
-use Rattle.aes.specs.Form.{storedSchedule}
+use Rattle.aes.specs.Meaning.{storedSchedule}
 use Rattle.fips197.specs.declared.KeySize.{KeySize}
 use borrow.Author.Needs.{needs}
 use Rattle.aes_c.proofs.aes_key_expansion.Statement.{statement}

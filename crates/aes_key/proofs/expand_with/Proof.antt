@@ -10,7 +10,7 @@ use mathlib.Core.List.{_++_}
 use Rattle.bits.specs.Words.{leWords}
 use Rattle.fips197.specs.KeyExpansion.{expanded}
 use Rattle.fips197.specs.Sizes.{nk}
-use Rattle.aes.specs.Form.{bytesOf}
+use Rattle.aes.specs.Meaning.{bytesOf}
 use Rattle.aes_key.proofs.Expansion.{expanded-none, expands, key-words-few, stored}
 use Rattle.aes_key.proofs.expand_with.Statement.{statement}
 use Rattle.aes_key.proofs.expand_with.Tie as tie

@@ -5,7 +5,7 @@ use Rattle.fips197.specs.Aes.{encrypt, decrypt}
 use Rattle.fips197.specs.Cipher.{cipher}
 use Rattle.fips197.specs.InvCipher.{invCipher}
 use Rattle.fips197.specs.Sizes.{nk, nr}
-use Rattle.aes.specs.Form.{bytesOf, keyBytes, schedule}
+use Rattle.aes.specs.Meaning.{bytesOf, keyBytes, schedule}
 use Rattle.aes.proofs.Schedule.{schedule-stored}
 use Rattle.fips197.specs.KeyExpansion.{keyExpansion}
 use Rattle.fips197.specs.declared.Direction.{Direction}

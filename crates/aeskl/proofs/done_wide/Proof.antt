@@ -1,5 +1,5 @@
 use mathlib.Core.Path.{_∙_, sym, ap}
-use Rattle.aes.specs.Form.{keyBytes}
+use Rattle.aes.specs.Meaning.{keyBytes}
 use Rattle.model.specs.Cpu.{withZf}
 use Rattle.model.specs.Instructions.{aes}
 use Rattle.model.proofs.Uses.{aes-length}

@@ -1,6 +1,6 @@
 use mathlib.Core.Path.{_∙_, ap}
 use Prim.Native.Nat.{ℕ}
-use Rattle.aes.specs.Form.{bytesOf}
+use Rattle.aes.specs.Meaning.{bytesOf}
 use Rattle.model.specs.Instructions.{illegal}
 use borrow.Author.Needs.{needs}
 use Rattle.aeskl.proofs.illegal_at.Statement.{statement}

@@ -2,7 +2,7 @@ use mathlib.Core.Path.{_∙_, ap₂}
 use mathlib.Core.List.{List}
 use Prim.Native.Nat.{ℕ}
 use Rattle.handle.specs.Wrap.{unwrapKey}
-use Rattle.keywrap.specs.Form.{paddedKey, handleBytes}
+use Rattle.keywrap.specs.Meaning.{paddedKey, handleBytes}
 use borrow.Author.Needs.{needs}
 use Rattle.aeskl.proofs.unwrapped_by.Statement.{statement}
 use Rattle.aeskl.proofs.unwrapped_by.Tie as tie

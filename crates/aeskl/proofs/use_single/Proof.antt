@@ -2,8 +2,8 @@ use mathlib.Core.Path.{_≡_, _∙_, sym, ap}
 use mathlib.Core.List.{List, [], _∷_}
 use Prim.Native.Nat.{ℕ}
 use lib.ListN.{length}
-use Rattle.aes.specs.Form.{keyBytes}
-use Rattle.keywrap.specs.Form.{opened}
+use Rattle.aes.specs.Meaning.{keyBytes}
+use Rattle.keywrap.specs.Meaning.{opened}
 use Rattle.model.specs.Cpu.{withXmm, withZf}
 use Rattle.model.specs.Instructions.{aes}
 use Rattle.aeskl.proofs.Openings.{illegal-used, none-used, key-used}

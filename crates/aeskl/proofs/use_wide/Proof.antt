@@ -1,6 +1,6 @@
 use mathlib.Core.Path.{_∙_, sym, ap}
 use mathlib.Core.List.{[], _∷_}
-use Rattle.keywrap.specs.Form.{opened}
+use Rattle.keywrap.specs.Meaning.{opened}
 use Rattle.aeskl.proofs.Openings.{illegal-used, none-used, key-used}
 use borrow.Author.Needs.{needs}
 use Rattle.aeskl.proofs.use_wide.Statement.{statement}

@@ -3,7 +3,7 @@ use mathlib.Core.Bool.{Bool, cond}
 use Prim.Native.Nat.{ℕ, _+_, _^_, _/_, _%_}
 use native.Mathlib.Nat.{add-zero}
 use Rattle.model.specs.Numbers.{clearBit}
-use Rattle.model.specs.Cpu as model
+use Rattle.model.specs.Cpu as cpuRecord
 use Rattle.model.proofs.Cpu.{six-cleared}
 use Rattle.cpu.proofs.Words.{zf-fits}
 use borrow.Author.Needs.{needs}
@@ -29,13 +29,13 @@ returns : tie.Need-returns
 returns c =
     ap (λ (w : ℕ). w + 64)
     (c .before .clear-low .ensures ∙ ap (λ (w : ℕ). clearBit 0 (clearBit 2 (clearBit 4 w))) (c .before .before .clear-high .ensures))
-    ∙ sym (ap (λ (z : Bool). model.flags (cond z 1 0) (c .before .before .before .args .x)) (c .if1 .taken))
+    ∙ sym (ap (λ (z : Bool). cpuRecord.flags (cond z 1 0) (c .before .before .before .args .x)) (c .if1 .taken))
 
 returns-2 : tie.Need-returns-2
 returns-2 c =
     c .before .clear-low .ensures
     ∙ ap (λ (w : ℕ). clearBit 0 (clearBit 2 (clearBit 4 w))) (c .before .before .clear-high .ensures)
-    ∙ sym (ap (λ (z : Bool). model.flags (cond z 1 0) (c .before .before .before .args .x)) (c .if1 .left) ∙ add-zero (model.sixCleared (c .before .before .before .args .x)))
+    ∙ sym (ap (λ (z : Bool). cpuRecord.flags (cond z 1 0) (c .before .before .before .args .x)) (c .if1 .left) ∙ add-zero (cpuRecord.sixCleared (c .before .before .before .args .x)))
 
 pub flags-spec : {M : Type 1} → statement M
 flags-spec =

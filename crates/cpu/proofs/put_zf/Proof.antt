@@ -3,7 +3,7 @@ use mathlib.Core.Bool.{cond}
 use Prim.Native.Nat.{ℕ}
 use lib.Seq.{sets}
 use Rattle.bits.specs.Words.{leBytes}
-use Rattle.model.specs.Cpu as model
+use Rattle.model.specs.Cpu as cpuRecord
 use borrow.Author.Needs.{needs}
 use Rattle.cpu.proofs.put_zf.Statement.{statement}
 use Rattle.cpu.proofs.put_zf.Tie as tie
@@ -24,8 +24,8 @@ returns : tie.Need-returns
 returns c =
     let st = c .before .before .before .before .before .before .before .before in
     c .before .before .put-quad .ensures
-    ∙ ap (λ (v : ℕ). sets (st .args .cpu .now) model.rflagsAt (leBytes 8 v))
-    (c .before .before .before .flags .ensures ∙ ap (model.flags (cond (st .args .zf) 1 0)) (c .before .before .before .before .before .quad-at .ensures))
+    ∙ ap (λ (v : ℕ). sets (st .args .cpu .now) cpuRecord.rflagsAt (leBytes 8 v))
+    (c .before .before .before .flags .ensures ∙ ap (cpuRecord.flags (cond (st .args .zf) 1 0)) (c .before .before .before .before .before .quad-at .ensures))
 
 pub put-zf-spec : {M : Type 1} → statement M
 put-zf-spec =

@@ -9,12 +9,12 @@ use lib.ListN.{length, getD, length-set}
 use Rattle.bits.specs.Words.{leValue}
 use Rattle.bits.proofs.Lists.{filled}
 use Rattle.model.specs.Numbers.{part}
-use Rattle.model.specs.Cpu as model
+use Rattle.model.specs.Cpu as cpuRecord
 use Rattle.cpu.proofs.registers.Statement.{statement}
 use Rattle.cpu.proofs.registers.Tie as tie
 
 abbrev Inv-loop : tie.InvT-loop
-Inv-loop cpu r₀ i₀ r i = (i ≤ 16) × (length r ≡ 16) × ((n : ℕ) → n < i → getD r n 0 ≡ model.register n cpu)
+Inv-loop cpu r₀ i₀ r i = (i ≤ 16) × (length r ≡ 16) × ((n : ℕ) → n < i → getD r n 0 ≡ cpuRecord.register n cpu)
 
 abbrev μ-loop : tie.MeasureT-loop
 μ-loop cpu r₀ i₀ r i = 16 - i
@@ -53,7 +53,7 @@ loop-again c =
     let number : i % 16 ≡ i = omega (arith, c .before .loop-test .taken) in (
       omega arith,
       length-set r i x ∙ at-loop .loop .inv .1,
-      filled (λ n y. y ≡ model.register n cpu) r i x (omega (arith, at-loop .loop .inv .1, c .before .loop-test .taken)) (at-loop .loop .inv .2)
+      filled (λ n y. y ≡ cpuRecord.register n cpu) r i x (omega (arith, at-loop .loop .inv .1, c .before .loop-test .taken)) (at-loop .loop .inv .2)
           (c .quad-at .ensures ∙ ap (λ (k : ℕ). leValue (part 8 (256 + 8 * k) cpu)) (sym number)),
     )
 

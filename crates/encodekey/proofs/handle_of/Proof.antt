@@ -1,10 +1,10 @@
 use mathlib.Core.Path.{_∙_, ap, ap₂}
 use mathlib.Core.List.{List}
 use Prim.Native.Nat.{ℕ}
-use Rattle.aes.specs.Form.{bytesOf, keyBytes}
+use Rattle.aes.specs.Meaning.{bytesOf, keyBytes}
 use Rattle.handle.specs.Format.{aad}
 use Rattle.handle.specs.Wrap.{wrapKey}
-use Rattle.keywrap.specs.Form.{padded}
+use Rattle.keywrap.specs.Meaning.{padded}
 use Rattle.model.specs.Cpu.{register}
 use Rattle.model.specs.Instructions.{typeOf, encodedHandle}
 use Rattle.model.proofs.Uses.{handle-length}

@@ -2,9 +2,9 @@ use mathlib.Core.Path.{_∙_, refl, sym, ap}
 use mathlib.Core.List.{List, _++_}
 use Prim.Native.Nat.{ℕ}
 use lib.Seq.{sets}
-use Rattle.aes.specs.Form.{bytesOf}
+use Rattle.aes.specs.Meaning.{bytesOf}
 use Rattle.fips197.specs.declared.KeySize.{KeySize}
-use Rattle.keywrap.specs.Form.{handleBytes}
+use Rattle.keywrap.specs.Meaning.{handleBytes}
 use Rattle.encodekey.proofs.Handles.{three-stored, fourth-stored}
 use borrow.Author.Needs.{needs}
 use Rattle.encodekey.proofs.put_handle.Statement.{statement}

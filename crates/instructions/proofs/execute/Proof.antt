@@ -1,8 +1,8 @@
 use mathlib.Core.Path.{_∙_, sym, ap}
 use Rattle.isa.specs.declared.Instruction.{Instruction}
-use Rattle.loadiwkey.specs.Form.{randomData}
+use Rattle.loadiwkey.specs.Meaning.{randomData}
 use Rattle.model.specs.Forms.{formOf, single, wide}
-use Rattle.model.specs.Instructions as model
+use Rattle.model.specs.Instructions as instructions
 use borrow.Author.Needs.{needs}
 use Rattle.instructions.proofs.execute.Statement.{statement}
 use Rattle.instructions.proofs.execute.Tie as tie
@@ -35,25 +35,25 @@ returns : tie.Need-returns
 returns c =
     let a = c .before .before .before .before .before .args in
     (λ j. record { key = a .k; cpu = c .single .ensures j })
-    ∙ ap (λ (i : Instruction). model.execute (a .memory .now) (randomData (a .random)) i (a .bytes) (a .k) (a .cpu)) (sym (c .before .before .what .given .1))
+    ∙ ap (λ (i : Instruction). instructions.execute (a .memory .now) (randomData (a .random)) i (a .bytes) (a .k) (a .cpu)) (sym (c .before .before .what .given .1))
 
 returns-2 : tie.Need-returns-2
 returns-2 c =
     let a = c .before .before .before .before .before .args in
     (λ j. record { key = a .k; cpu = c .wide .ensures j })
-    ∙ ap (λ (i : Instruction). model.execute (a .memory .now) (randomData (a .random)) i (a .bytes) (a .k) (a .cpu)) (sym (c .before .before .what2 .given .1))
+    ∙ ap (λ (i : Instruction). instructions.execute (a .memory .now) (randomData (a .random)) i (a .bytes) (a .k) (a .cpu)) (sym (c .before .before .what2 .given .1))
 
 returns-3 : tie.Need-returns-3
 returns-3 c =
     let a = c .before .before .before .before .before .args in
     c .load .ensures
-    ∙ ap (λ (i : Instruction). model.execute (a .memory .now) (randomData (a .random)) i (a .bytes) (a .k) (a .cpu)) (sym (c .before .before .what3 .given .1))
+    ∙ ap (λ (i : Instruction). instructions.execute (a .memory .now) (randomData (a .random)) i (a .bytes) (a .k) (a .cpu)) (sym (c .before .before .what3 .given .1))
 
 returns-4 : tie.Need-returns-4
 returns-4 c =
     let a = c .before .before .before .before .before .args in
     c .encoded .ensures
-    ∙ ap (λ (i : Instruction). model.execute (a .memory .now) (randomData (a .random)) i (a .bytes) (a .k) (a .cpu)) (sym (c .before .before .what4 .given .1))
+    ∙ ap (λ (i : Instruction). instructions.execute (a .memory .now) (randomData (a .random)) i (a .bytes) (a .k) (a .cpu)) (sym (c .before .before .what4 .given .1))
 
 pub execute-spec : {M : Type 1} → statement M
 execute-spec =

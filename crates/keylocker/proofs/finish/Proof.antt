@@ -1,5 +1,5 @@
 use mathlib.Core.Path.{_∙_, sym, ap}
-use Rattle.keylocker.specs.Form.{called, answered}
+use Rattle.keylocker.specs.Meaning.{called, answered}
 use borrow.Author.Needs.{needs}
 use Rattle.keylocker.proofs.finish.Statement.{statement}
 use Rattle.keylocker.proofs.finish.Tie as tie

@@ -1,4 +1,4 @@
-use Rattle.model.specs.Calls as model
+use Rattle.model.specs.Calls as calls
 use Rattle.keylocker.proofs.Finishing.{short-block, called-of}
 use borrow.Author.Needs.{needs}
 use Rattle.keylocker.proofs.keylocker_write.Statement.{statement}
@@ -7,7 +7,7 @@ use Rattle.keylocker.proofs.keylocker_write.Tie as tie
 returns : tie.Need-returns
 returns c =
     let a = c .before .before .args in
-    short-block (a .machine .now) (model.write (record { processor = a .processor; cpl = a .cpl; address = a .address; value = a .value })) (c .if1 .taken)
+    short-block (a .machine .now) (calls.write (record { processor = a .processor; cpl = a .cpl; address = a .address; value = a .value })) (c .if1 .taken)
 
 read-machine-requires : tie.Need-read-machine-requires
 read-machine-requires c κs = search needs
@@ -24,7 +24,7 @@ same-length c = search needs
 returns-2 : tie.Need-returns-2
 returns-2 c =
     let a = c .before .before .before .before .before .before .before .before .before .args in
-    called-of (a .machine .now) (model.write (record { processor = a .processor; cpl = a .cpl; address = a .address; value = a .value })) _ _ _ (c .before .before .before .write .result) (search needs)
+    called-of (a .machine .now) (calls.write (record { processor = a .processor; cpl = a .cpl; address = a .address; value = a .value })) _ _ _ (c .before .before .before .write .result) (search needs)
     (c .before .before .before .before .before .read-machine .ensures) (c .before .before .before .write .ensures) (c .before .before .finish .ensures)
 
 pub keylocker-write-spec : {M : Type 1} → statement M

@@ -1,6 +1,6 @@
 -- Assumes nothing.
 use mathlib.Core.Path.{sym, ap, _∙_}
-use Rattle.keywrap.specs.Form.{opened}
+use Rattle.keywrap.specs.Meaning.{opened}
 use Rattle.keywrap.specs.declared.Unwrapped.{Unwrapped}
 use Rattle.keywrap_c.specs.Answer as answer
 use borrow.Author.Needs.{needs}

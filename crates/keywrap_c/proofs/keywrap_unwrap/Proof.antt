@@ -4,10 +4,10 @@ use mathlib.Core.List.{List}
 use Prim.Native.Nat.{ℕ, _+_, _*_}
 use lib.ListN.{take}
 use Rattle.fips197.specs.Sizes.{nk}
-use Rattle.aes.specs.Form.{bytesOf, keyBytes}
+use Rattle.aes.specs.Meaning.{bytesOf, keyBytes}
 use Rattle.fips197.specs.declared.KeySize.the-variants.{Aes256}
 use Rattle.handle.specs.Wrap.{unwrapKey}
-use Rattle.keywrap.specs.Form.{paddedKey}
+use Rattle.keywrap.specs.Meaning.{paddedKey}
 use Rattle.keywrap_c.specs.Answer as answer
 use Rattle.keywrap.proofs.Sizes.{first-bytes}
 use borrow.Author.Needs.{needs}

@@ -4,7 +4,7 @@ use Prim.Native.Nat.{_*_}
 use lib.ListN.{take}
 use Rattle.fips197.specs.Sizes.{nk}
 use Rattle.handle.specs.Wrap.{wrapKey}
-use Rattle.keywrap.specs.Form.{padded}
+use Rattle.keywrap.specs.Meaning.{padded}
 use borrow.Author.Needs.{needs}
 use Rattle.keywrap_c.proofs.keywrap_wrap.Statement.{statement}
 use Rattle.keywrap_c.proofs.keywrap_wrap.Tie as tie

@@ -8,9 +8,9 @@ use borrow.Author.Needs.{needs}
 use lib.ListN.{length}
 use Rattle.bits.specs.Blocks.{blocks}
 use Rattle.bits.specs.Words.{leBytes, leValue}
-use Rattle.aes.specs.Form.{bytesOf}
+use Rattle.aes.specs.Meaning.{bytesOf}
 use Rattle.rfc8452.specs.Polyval.{polyvalFrom, polyval}
-use Rattle.polyval.specs.Form.{num, first}
+use Rattle.polyval.specs.Meaning.{num, first}
 use Rattle.polyval.proofs.Folding.{block-more}
 use Rattle.keywrap_c.proofs.polyval.Statement.{statement}
 use Rattle.keywrap_c.proofs.polyval.Tie as tie

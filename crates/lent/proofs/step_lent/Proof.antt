@@ -49,7 +49,7 @@ use Rattle.model.proofs.Machine as T
 use Rattle.model.proofs.Machine.Laws as T′
 use Rattle.machine.proofs.Answer as E
 use Rattle.machine.proofs.Answer.Laws as E′
-use Rattle.lent.specs.Form.{left, leftOf}
+use Rattle.lent.specs.Meaning.{left, leftOf}
 use Rattle.lent.specs.declared.Taken.{Taken}
 use Rattle.lent.proofs.Places.{rest-stayed, rest-goes}
 use Rattle.lent.proofs.Taken as S

@@ -54,7 +54,7 @@ use Rattle.model.proofs.Machine.Laws as T′
 use Rattle.machine.specs.declared.Answer.{Answer}
 use Rattle.machine.proofs.Answer as E
 use Rattle.machine.proofs.Answer.Laws as E′
-use Rattle.lent.specs.Form.{left, leftOf}
+use Rattle.lent.specs.Meaning.{left, leftOf}
 use Rattle.lent.specs.declared.Taken.{Taken}
 use Rattle.lent.proofs.Places.{rest-stayed, rest-goes}
 use Rattle.lent.proofs.Taken as S

@@ -4,7 +4,7 @@ use mathlib.Core.Path.{_∙_, sym, ap}
 use borrow.Author.Needs.{needs}
 use Rattle.model.specs.Calls.{StepCall}
 use Rattle.machine.specs.declared.Answer.{Answer}
-use Rattle.lent.specs.Form.{left}
+use Rattle.lent.specs.Meaning.{left}
 use Rattle.lent.proofs.Leaving.{whole, left-done, left-refused}
 use Rattle.lent.proofs.take_step.Statement.{statement}
 use Rattle.lent.proofs.take_step.Tie as tie

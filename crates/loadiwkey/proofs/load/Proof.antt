@@ -6,9 +6,9 @@ use lib.ListN.{length}
 use borrow.Author.Tests.{eq-eqb, ne-eqb}
 use Rattle.bits.proofs.Choice.{cond-on, cond-off}
 use Rattle.model.specs.Forms.{keySource}
-use Rattle.model.specs.Instructions as model
+use Rattle.model.specs.Instructions as instructions
 use Rattle.model.specs.declared.IwKey.{IwKey}
-use Rattle.loadiwkey.specs.Form.{randomData}
+use Rattle.loadiwkey.specs.Meaning.{randomData}
 use Rattle.loadiwkey.proofs.Loading.{load-plain, load-mixed, load-kept}
 use borrow.Author.Needs.{needs}
 use Rattle.loadiwkey.proofs.load.Statement.{statement}
@@ -61,8 +61,8 @@ returns-2 c =
     let l = st .args .l in
     let size : length (random .bytes) ≡ 48 = search needs in
     let source = eq-eqb (keySource cpu) 1 (sym (c .before .before .before .before .before .before .before .before .before .key-source .ensures) ∙ c .before .before .before .before .before .if1 .left) in
-    ap₂ (λ (x : IwKey) (y : List ℕ). record { key = x; cpu = y }) (c .before .before .before .mixed .ensures ∙ ap (model.mixedWith (random .bytes)) (c .before .before .before .before .before .before .before .plain-key .ensures)) (c .before .put-zf2 .ensures)
-    ∙ sym (ap (λ (r : List ℕ). model.load l r k cpu) (cond-on (c .before .before .before .before .if2 .taken) (random .bytes) []) ∙ load-mixed l k cpu (random .bytes) source (ap (λ (n : ℕ). eqb n 0) size))
+    ap₂ (λ (x : IwKey) (y : List ℕ). record { key = x; cpu = y }) (c .before .before .before .mixed .ensures ∙ ap (instructions.mixedWith (random .bytes)) (c .before .before .before .before .before .before .before .plain-key .ensures)) (c .before .put-zf2 .ensures)
+    ∙ sym (ap (λ (r : List ℕ). instructions.load l r k cpu) (cond-on (c .before .before .before .before .if2 .taken) (random .bytes) []) ∙ load-mixed l k cpu (random .bytes) source (ap (λ (n : ℕ). eqb n 0) size))
 
 slice-aggregate-put-zf-3 : tie.Need-slice-aggregate-put-zf-3
 slice-aggregate-put-zf-3 c = search needs
@@ -79,7 +79,7 @@ returns-3 c =
     let l = st .args .l in
     let source = eq-eqb (keySource cpu) 1 (sym (c .before .before .before .before .before .before .before .before .key-source .ensures) ∙ c .before .before .before .before .if1 .left) in
     ap (λ (y : List ℕ). record { key = k; cpu = y }) (c .before .put-zf3 .ensures)
-    ∙ sym (ap (λ (r : List ℕ). model.load l r k cpu) (cond-off (c .before .before .before .if2 .left) (random .bytes) []) ∙ load-kept l k cpu source)
+    ∙ sym (ap (λ (r : List ℕ). instructions.load l r k cpu) (cond-off (c .before .before .before .if2 .left) (random .bytes) []) ∙ load-kept l k cpu source)
 
 pub load-spec : {M : Type 1} → statement M
 load-spec =

@@ -2,7 +2,7 @@ use mathlib.Core.Path.{_∙_, ap, ap₂}
 use mathlib.Core.List.{List, _++_}
 use Prim.Native.Nat.{ℕ}
 use lib.Seq.{sets}
-use Rattle.aes.specs.Form.{bytesOf}
+use Rattle.aes.specs.Meaning.{bytesOf}
 use Rattle.model.specs.Cpu.{xmm}
 use borrow.Author.Needs.{needs}
 use Rattle.loadiwkey.proofs.plain_key.Statement.{statement}

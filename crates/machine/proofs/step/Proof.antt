@@ -4,7 +4,7 @@ use Prim.Native.Nat.{ℕ, _+_, _≤_}
 use native.Mathlib.Nat.{suc-ne-zero}
 use lib.ListN.{length}
 use Rattle.isa.specs.Ranges.{handleLength}
-use Rattle.loadiwkey.specs.Form.{randomData, executedOf}
+use Rattle.loadiwkey.specs.Meaning.{randomData, executedOf}
 use Rattle.model.specs.Calls.{StepCall}
 use Rattle.model.specs.Calls as calls
 use Rattle.model.specs.Execution.{viewOf}

@@ -4,7 +4,7 @@ use Rattle.model.specs.Records.{withPlatform}
 use Rattle.model.specs.declared.Machine.{Machine}
 use Rattle.machine.proofs.Calls.{found-valid, doneWith, outcome-invalid, outcome-refused}
 use Rattle.machine.proofs.Steps.{write-done}
-use Rattle.platform.specs.Form.{copiedOf}
+use Rattle.platform.specs.Meaning.{copiedOf}
 use borrow.Author.Needs.{needs}
 use Rattle.machine.proofs.write.Statement.{statement}
 use Rattle.machine.proofs.write.Tie as tie

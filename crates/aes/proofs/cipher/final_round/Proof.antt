@@ -2,7 +2,7 @@ use mathlib.Core.Path.{ap, _∙_}
 use mathlib.Core.List.{List}
 use Prim.Native.Nat.{ℕ}
 use Rattle.fips197.specs.Cipher.{addRoundKey, finalRound}
-use Rattle.aes.specs.Form.{bytesOf}
+use Rattle.aes.specs.Meaning.{bytesOf}
 use borrow.Author.Needs.{needs}
 use Rattle.aes.proofs.cipher.final_round.Statement.{statement}
 use Rattle.aes.proofs.cipher.final_round.Tie as tie

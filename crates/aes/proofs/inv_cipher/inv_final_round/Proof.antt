@@ -3,7 +3,7 @@ use mathlib.Core.List.{List}
 use Prim.Native.Nat.{ℕ}
 use Rattle.fips197.specs.Cipher.{addRoundKey}
 use Rattle.fips197.specs.InvCipher.{invFinalRound}
-use Rattle.aes.specs.Form.{bytesOf}
+use Rattle.aes.specs.Meaning.{bytesOf}
 use borrow.Author.Needs.{needs}
 use Rattle.aes.proofs.inv_cipher.inv_final_round.Statement.{statement}
 use Rattle.aes.proofs.inv_cipher.inv_final_round.Tie as tie

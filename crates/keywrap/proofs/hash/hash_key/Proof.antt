@@ -5,11 +5,11 @@ use Prim.Native.Nat.{ℕ, _/_}
 use lib.ListN.{length}
 use Rattle.bits.specs.Blocks.{blocks}
 use Rattle.bits.specs.Words.{leValue}
-use Rattle.aes.specs.Form.{bytesOf, keyBytes}
+use Rattle.aes.specs.Meaning.{bytesOf, keyBytes}
 use Rattle.fips197.specs.declared.KeySize.{KeySize}
 use Rattle.rfc8452.specs.Field.{add, dot}
 use Rattle.rfc8452.specs.Polyval.{polyvalFrom}
-use Rattle.polyval.specs.Form.{num, first}
+use Rattle.polyval.specs.Meaning.{num, first}
 use borrow.Author.Needs.{needs}
 use Rattle.keywrap.proofs.hash.hash_key.Statement.{statement}
 use Rattle.keywrap.proofs.hash.hash_key.Tie as tie

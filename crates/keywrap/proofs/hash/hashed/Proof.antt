@@ -5,9 +5,9 @@ use Prim.Native.Nat.{ℕ, _/_}
 use lib.ListN.{length}
 use Rattle.bits.specs.Blocks.{blocks}
 use Rattle.bits.specs.Words.{leBytes, leValue}
-use Rattle.aes.specs.Form.{bytesOf, keyBytes}
+use Rattle.aes.specs.Meaning.{bytesOf, keyBytes}
 use Rattle.rfc8452.specs.Polyval.{polyvalFrom, polyval}
-use Rattle.polyval.specs.Form.{first}
+use Rattle.polyval.specs.Meaning.{first}
 use Rattle.handle.specs.Wrap.{hashed}
 use Rattle.keywrap.proofs.Ends.{hash-ends}
 use borrow.Author.Needs.{needs}

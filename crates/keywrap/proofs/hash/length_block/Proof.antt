@@ -1,6 +1,6 @@
 -- Assumes nothing.
 use mathlib.Core.Path.{sym, ap}
-use Rattle.aes.specs.Form.{bytesOf, keyBytes}
+use Rattle.aes.specs.Meaning.{bytesOf, keyBytes}
 use Rattle.fips197.specs.declared.KeySize.{KeySize}
 use Rattle.handle.specs.Wrap.{lengthBlock}
 use borrow.Author.Needs.{needs}

@@ -2,7 +2,7 @@
 use mathlib.Core.Path.{ap, _∙_}
 use Rattle.bits.specs.Bytes.{xorBytes}
 use Rattle.fips197.specs.Cipher.{cipher}
-use Rattle.aes.specs.Form.{bytesOf, schedule}
+use Rattle.aes.specs.Meaning.{bytesOf, schedule}
 use Rattle.fips197.specs.declared.KeySize.the-variants.{Aes256}
 use borrow.Author.Needs.{needs}
 use Rattle.keywrap.proofs.siv.mask_block.Statement.{statement}

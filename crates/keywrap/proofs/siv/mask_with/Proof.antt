@@ -6,12 +6,12 @@ use lib.ListN.{length, replicate}
 use Rattle.bits.specs.Bytes.{xorBytes}
 use Rattle.fips197.specs.Cipher.{cipher}
 use Rattle.fips197.proofs.Undo.{cipher-length}
-use Rattle.aes.specs.Form.{bytesOf, keyBytes, schedule}
+use Rattle.aes.specs.Meaning.{bytesOf, keyBytes, schedule}
 use Rattle.aes.specs.declared.Key.{Key}
 use Rattle.fips197.specs.declared.KeySize.{KeySize}
 use Rattle.fips197.specs.declared.KeySize.the-variants.{Aes256}
 use Rattle.handle.specs.Wrap.{counterBlock, counterBlocks}
-use Rattle.keywrap.specs.Form.{padded}
+use Rattle.keywrap.specs.Meaning.{padded}
 use Rattle.keywrap.proofs.Parts.{mask-blocks, last-block}
 use borrow.Author.Needs.{needs}
 use Rattle.keywrap.proofs.siv.mask_with.Statement.{statement}

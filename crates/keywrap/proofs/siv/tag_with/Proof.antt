@@ -1,7 +1,7 @@
 -- Assumes nothing.
 use mathlib.Core.Path.{ap, _∙_}
 use Rattle.fips197.specs.Cipher.{cipher}
-use Rattle.aes.specs.Form.{schedule}
+use Rattle.aes.specs.Meaning.{schedule}
 use Rattle.fips197.specs.declared.KeySize.the-variants.{Aes256}
 use Rattle.handle.specs.Wrap.{clearTop}
 use borrow.Author.Needs.{needs}

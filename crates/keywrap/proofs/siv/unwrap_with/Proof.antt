@@ -5,11 +5,11 @@ use mathlib.Core.List.{List}
 use mathlib.Core.Option.{Option, none, some}
 use Prim.Native.Nat.{ℕ}
 use lib.ListN.{take}
-use Rattle.aes.specs.Form.{bytesOf, keyBytes, schedule}
+use Rattle.aes.specs.Meaning.{bytesOf, keyBytes, schedule}
 use Rattle.fips197.specs.declared.KeySize.the-variants.{Aes256}
 use Rattle.handle.specs.Wrap.{unwrapKey}
 use Rattle.aes.proofs.Schedule.{schedule-stored}
-use Rattle.keywrap.specs.Form.{wholeKey, handleBytes, paddedKey}
+use Rattle.keywrap.specs.Meaning.{wholeKey, handleBytes, paddedKey}
 use Rattle.keywrap.proofs.Ends.{unwrap-ends}
 use Rattle.keywrap.proofs.Sizes.{count, count-few, key-length, words-bytes}
 use borrow.Author.Needs.{needs}

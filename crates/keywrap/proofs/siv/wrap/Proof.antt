@@ -1,6 +1,6 @@
 -- Assumes nothing.
 use mathlib.Core.Path.{refl}
-use Rattle.aes.specs.Form.{bytesOf, keyBytes, schedule}
+use Rattle.aes.specs.Meaning.{bytesOf, keyBytes, schedule}
 use Rattle.aes.proofs.Schedule.{schedule-stored}
 use Rattle.fips197.specs.declared.KeySize.the-variants.{Aes256}
 use Rattle.keywrap.proofs.Ends.{wrap-ends}

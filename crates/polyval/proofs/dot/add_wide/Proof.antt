@@ -1,7 +1,7 @@
 -- Assumes nothing.
 use borrow.Author.Needs.{needs}
 use Rattle.rfc8452.specs.Field.{timesXTo}
-use Rattle.polyval.specs.Form.{value}
+use Rattle.polyval.specs.Meaning.{value}
 use Rattle.polyval.proofs.Reduction.{added}
 use Rattle.polyval.proofs.dot.add_wide.Statement.{statement}
 use Rattle.polyval.proofs.dot.add_wide.Tie as tie

@@ -8,7 +8,7 @@ use borrow.Author.Needs.{needs}
 use lib.Dec.{lit<}
 use lib.Pow.{shr-lt}
 use Rattle.rfc8452.specs.Field.{multiply}
-use Rattle.polyval.specs.Form.{value, first}
+use Rattle.polyval.specs.Meaning.{value, first}
 use Rattle.polyval.proofs.Windows.{no-bits, horner, third-word, third-fits}
 use Rattle.polyval.proofs.dot.product.Statement.{statement}
 use Rattle.polyval.proofs.dot.product.Tie as tie

@@ -1,6 +1,6 @@
 -- Assumes nothing.
 use borrow.Author.Needs.{needs}
-use Rattle.polyval.specs.Form.{value}
+use Rattle.polyval.specs.Meaning.{value}
 use Rattle.polyval.proofs.Reduction.{reduced}
 use Rattle.polyval.proofs.dot.reduce.Statement.{statement}
 use Rattle.polyval.proofs.dot.reduce.Tie as tie

@@ -3,7 +3,7 @@ use mathlib.Core.Path.{refl, ap}
 use Prim.Native.Nat.{ℕ, _+_, _/_, _^_}
 use native.Mathlib.Nat.{mod-eq-of-lt}
 use borrow.Author.Needs.{needs}
-use Rattle.polyval.specs.Form.{value}
+use Rattle.polyval.specs.Meaning.{value}
 use Rattle.polyval.proofs.Halves.{middle-lt}
 use Rattle.polyval.proofs.Reduction.{shift-added}
 use Rattle.polyval.proofs.dot.shift_add.Statement.{statement}

@@ -11,7 +11,7 @@ use lib.ListN.{length}
 use Rattle.bits.proofs.Field.{times-one}
 use Rattle.rfc8452.specs.Field.{add, timesX, multiply}
 use Rattle.rfc8452.proofs.Field.{gf128}
-use Rattle.polyval.specs.Form.{num, Multiples, first}
+use Rattle.polyval.specs.Meaning.{num, Multiples, first}
 use Rattle.polyval.proofs.Halves.{halves-lt}
 use Rattle.polyval.proofs.Windows.{at, Below, put, put-length, one-more, first-two, even, odd}
 use Rattle.polyval.proofs.table.multiples.Statement.{statement}

@@ -5,7 +5,7 @@ use Prim.Native.Nat.{ℕ}
 use Rattle.model.specs.Lent.{Lent}
 use Rattle.model.specs.Layout.{machineBytes}
 use Rattle.model.specs.declared.Machine.{Machine}
-use Rattle.machine.specs.Form.{numberOf}
+use Rattle.machine.specs.Meaning.{numberOf}
 use Rattle.machine.specs.declared.Answer.{Answer}
 use Rattle.machine.specs.declared.Answer.the-variants.{Done, Refused}
 use Rattle.machine.specs.declared.Outcome.{Outcome}

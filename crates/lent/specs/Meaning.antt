@@ -4,7 +4,7 @@ use mathlib.Core.List.{List}
 use Prim.Native.Nat.{ℕ}
 use Rattle.model.specs.Calls.{Outcome}
 use Rattle.model.specs.declared.Machine.{Machine}
-use Rattle.machine.specs.Form.{answerOf}
+use Rattle.machine.specs.Meaning.{answerOf}
 use Rattle.machine.specs.declared.Answer.{Answer}
 
 pub record Left : Type 0 where

@@ -4,7 +4,7 @@ use mathlib.Core.Bool.{cond}
 use Prim.Native.Nat.{ℕ}
 use lib.Dec.{eqb}
 use lib.ListN.{replicate}
-use Rattle.model.specs.Calls as model
+use Rattle.model.specs.Calls as calls
 use Rattle.model.specs.Cpu.{cpuSize}
 use Rattle.machine.specs.declared.Answer.{Answer}
 use Rattle.machine.specs.declared.Answer.the-variants.{Done, Refused}
@@ -21,11 +21,11 @@ abbrev pub answerOf : ℕ → Answer
 answerOf n = cond (eqb n 0) Done (Refused n)
 
 -- what a call gives by value
-abbrev pub outcomeOf : model.Outcome → Outcome
+abbrev pub outcomeOf : calls.Outcome → Outcome
 outcomeOf o = record { machine = o .machine; answer = answerOf (o .answer .number); value = o .answer .value }
 
 -- what a step gives by value: where it is refused the CPU record is the one lent, and zeros stand here
-abbrev pub steppedOf : model.Outcome → Stepped
+abbrev pub steppedOf : calls.Outcome → Stepped
 steppedOf o =
     record {
       machine = o .machine;

@@ -4,7 +4,7 @@ use mathlib.Core.List.{List, _++_}
 use mathlib.Core.Option.{Option, none, some}
 use Prim.Native.Nat.{ℕ}
 use lib.ListN.{take, replicate}
-use Rattle.aes.specs.Form.{bytesOf, keyBytes}
+use Rattle.aes.specs.Meaning.{bytesOf, keyBytes}
 use Rattle.aes.specs.declared.Key.{Key}
 use Rattle.fips197.specs.declared.KeySize.{KeySize}
 use Rattle.handle.specs.Format as format

@@ -3,7 +3,7 @@
 use mathlib.Core.Bool.{cond}
 use mathlib.Core.List.{List, []}
 use Prim.Native.Nat.{ℕ}
-use Rattle.model.specs.Instructions as model
+use Rattle.model.specs.Instructions as instructions
 use Rattle.loadiwkey.specs.declared.Random.{Random}
 use Rattle.loadiwkey.specs.declared.Executed.{Executed}
 
@@ -11,5 +11,5 @@ use Rattle.loadiwkey.specs.declared.Executed.{Executed}
 abbrev pub randomData : Random → List ℕ
 randomData r = cond (r .ready) (r .bytes) []
 
-abbrev pub executedOf : Executed → model.Executed
+abbrev pub executedOf : Executed → instructions.Executed
 executedOf r = record { key = r .key; cpu = r .cpu }
