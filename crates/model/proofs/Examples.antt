@@ -25,7 +25,7 @@ use Rattle.model.specs.Instructions.{encoded, openedFor, aes, ciphered, 
 use Rattle.model.specs.Backup.{copyOut, settled, woken}
 use Rattle.model.specs.Execution.{perform, call}
 use Rattle.model.specs.declared.IwKey.{IwKey}
-use Rattle.model.specs.Examples.{AllFulfilled, rax, rip, cpu, randomKey, examples}
+use Rattle.model.specs.Examples.{AllFulfilled, rax, rip, cpu, randomKey, xmm3Cpu, examples}
 use Rattle.model.proofs.Uses.{aes-length}
 
 -- ---- the examples that encode: what is seen of them does not depend on the tag and the ciphertext
@@ -65,6 +65,9 @@ k9 = ap (λ (h : List ℕ). take 16 (stored (rax 1) 0 h)) (handle-eq zeroKey 1 1
 
 k11 : register 1 (stored cpu 3 (handle randomKey 0 0 1)) ≡ 3
 k11 = ap (λ (h : List ℕ). register 1 (stored cpu 3 h)) (handle-eq randomKey 0 0 1)
+
+encode-keeps : xmm 3 (stored xmm3Cpu 0 (handle zeroKey 0 0 1)) ≡ replicate 16 0x33
+encode-keeps = ap (λ (h : List ℕ). xmm 3 (stored xmm3Cpu 0 h)) (handle-eq zeroKey 0 0 1)
 
 -- ---- RIP after a use, whether its handle gives a key or not
 
@@ -112,8 +115,10 @@ all-hold =
     (refl, tt) also (refl, tt) also
     -- LOCK, TS, an encode at CPL 3, the halves of the encryption key
     (refl, tt) also (refl, tt) also (refl, tt) also (refl, refl) also
+    -- XMM3
+    (refl, encode-keeps) also
     -- two refusals, a zero field, LOADIWKEY's EAX, a backup register
     (refl, tt) also (refl, tt) also (refl, tt) also (refl, tt) also (refl, tt) also (refl, tt) also (refl, tt) also
     -- RFLAGS, RIP, the backup status
-    (refl, refl) also (refl, k6 (openedFor zeroKey 0 Aes256 Encrypt (replicate 64 0))) also (refl, refl) also (refl, refl) also (refl, refl) also
+    (refl, refl) also (refl, k6 (openedFor zeroKey 0 Aes256 Encrypt (replicate 64 0))) also (refl, refl) also (refl, refl) also
     tt

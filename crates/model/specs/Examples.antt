@@ -15,7 +15,7 @@ use Rattle.isa.specs.declared.Decoded.{Decoded}
 use Rattle.isa.specs.declared.Decoded.the-variants as decoded
 use Rattle.model.specs.Records.{processorAt}
 use Rattle.model.specs.Cpu as Cpu
-use Rattle.model.specs.Cpu.{cpuSize, rflagsAt, cplAt, controlAt, register, rflags, withXmm, withRegister, withRip}
+use Rattle.model.specs.Cpu.{cpuSize, rflagsAt, cplAt, controlAt, xmm, register, rflags, withXmm, withRegister, withRip}
 use Rattle.model.specs.Forms.{Form, formOf, handleAddress}
 use Rattle.model.specs.Calls.{PowerOn, StepCall, Call, step, read, write, settle, sleep, stepOf, Outcome}
 use Rattle.model.specs.Execution.{powerOn, call, run}
@@ -34,6 +34,8 @@ pub data Sight : Type 0 where
   aadIs : List ℕ → Sight
   -- a register, and its number
   registerIs : ℕ → ℕ → Sight
+  -- an XMM register
+  xmmIs : ℕ → List ℕ → Sight
   -- RIP
   ripIs : ℕ → Sight
   -- RFLAGS
@@ -74,6 +76,7 @@ Seen (uses d k b a) c o = seen (stepOf c) ≡ some (uses d k b a)
 Seen (keyIs k) c o = processorAt (o .machine) 0 .key ≡ k
 Seen (aadIs a) c o = take 16 (o .answer .cpu) ≡ a
 Seen (registerIs n x) c o = register n (o .answer .cpu) ≡ x
+Seen (xmmIs n b) c o = xmm n (o .answer .cpu) ≡ b
 Seen (ripIs x) c o = Cpu.rip (o .answer .cpu) ≡ x
 Seen (rflagsIs x) c o = rflags (o .answer .cpu) ≡ x
 Seen (valueIs x) c o = o .answer .value ≡ x
@@ -179,6 +182,9 @@ halvesCpu = withXmm 1 (replicate 16 1) (withXmm 2 (replicate 16 2) cpu)
 abbrev pub halvesKey : IwKey
 halvesKey = record { integrity = replicate 16 0; encryption = replicate 16 2 ++ replicate 16 1; source = 0; «no_backup» = 0 }
 
+abbrev pub xmm3Cpu : List ℕ
+xmm3Cpu = withXmm 3 (replicate 16 0x33) cpu
+
 abbrev pub examples : List Example
 examples =
     -- K1 F3 0F 38 DC 00, RAX 0: memory 48 loads; 47 gives 14.
@@ -222,6 +228,8 @@ examples =
     ∷ gives (on (sets (rax 1) cplAt (3 ∷ [])) 0 encodeKey128) 0
     -- "Encryption key low half SRC2, high half SRC1"
     ∷ shows (on halvesCpu 0 loadIwKey) (keyIs halvesKey)
+    -- ENCODEKEY128's handle goes "to XMM0 to 2", "XMM4 to 6 zero": XMM3 is kept
+    ∷ shows (on xmm3Cpu 0 encodeKey128) (xmmIs 3 (replicate 16 0x33))
     -- what comes first of two: 3 of 4, 10 of 11, 11 of 12
     ∷ after sixteen [] (step (onProcessor 16 [] 48 [] encrypt)) 3 nothing
     ∷ gives (on (sets (rax 0) controlAt (0x0B ∷ [])) 48 (0xF0 ∷ encrypt)) 10
@@ -236,8 +244,7 @@ examples =
     ∷ shows (on (sets cpu rflagsAt (replicate 8 0xFF)) 0 loadIwKey) (rflagsIs 0xFFFF_FFFF_FFFF_F72A)
     -- K6's instruction has ten bytes
     ∷ shows (on (rip 0) 90 ripRelative) (ripIs 10)
-    -- "valid in bit 0, error 2, consumed 3": a good settle, a bad one, and a sleep that leaves junk
-    ∷ backupStatus (writes 0 0xD91 1 ∷ settle (record { code = 0 }) ∷ []) 9
+    -- "valid in bit 0, error 2, consumed 3": a bad settle, and a sleep that leaves junk
     ∷ backupStatus (writes 0 0xD91 1 ∷ settle (record { code = 1 }) ∷ []) 12
     ∷ backupStatus (sleep (record { code = 2 }) ∷ []) 4
     ∷ []
