@@ -1,6 +1,6 @@
 -- A handle in memory, block by block.
 -- Assumes nothing.
-use mathlib.Core.Path.{_≡_, _∙_, sym, ap, ap₂, subst}
+use mathlib.Core.Path.{_≡_, _∙_, refl, sym, ap, ap₂}
 use mathlib.Core.List.{List, _++_}
 use Prim.Native.Nat.{ℕ, _+_, _≤_}
 use native.Mathlib.Omega.{arith}
@@ -24,18 +24,13 @@ pub three-at-least : (size : KeySize) → 48 ≤ handleLength size
 three-at-least Aes128 = omega arith
 three-at-least Aes256 = omega arith
 
--- a handle's struct, filled block by block
-module _ (size : KeySize) (h : Handle) (s : List ℕ) (at : ℕ) (aad : bytesOf (h .aad) ≡ part 16 at s) (tag : bytesOf (h .tag) ≡ part 16 (at + 16) s)
+-- a handle's struct, filled block by block; the fourth is read where the key has two
+module _ (h : Handle) (s : List ℕ) (at : ℕ) (aad : bytesOf (h .aad) ≡ part 16 at s) (tag : bytesOf (h .tag) ≡ part 16 (at + 16) s)
     (low : bytesOf (h .ciphertext .low) ≡ part 16 (at + 32) s) where
   abbrev join : List ℕ → List ℕ → List ℕ
   join x y = x ++ y
 
-  pub handle-128 : size ≡ Aes128 → handleBytes size h ≡ part (handleLength size) at s
-  handle-128 e =
-      subst (λ (z : KeySize). handleBytes z h ≡ part (handleLength z) at s) (sym e)
-      (ap₂ join (ap₂ join aad tag) low ∙ sym (three-blocks s at))
-
-  pub handle-256 : size ≡ Aes256 → bytesOf (h .ciphertext .high) ≡ part 16 (at + 48) s → handleBytes size h ≡ part (handleLength size) at s
-  handle-256 e high =
-      subst (λ (z : KeySize). handleBytes z h ≡ part (handleLength z) at s) (sym e)
-      (ap₂ join (ap₂ join (ap₂ join aad tag) low) high ∙ sym (four-blocks s at))
+  pub handle-read : (size : KeySize) → (size ≡ Aes256 → bytesOf (h .ciphertext .high) ≡ part 16 (at + 48) s)
+      → handleBytes size h ≡ part (handleLength size) at s
+  handle-read Aes128 high = ap₂ join (ap₂ join aad tag) low ∙ sym (three-blocks s at)
+  handle-read Aes256 high = ap₂ join (ap₂ join (ap₂ join aad tag) low) (high refl) ∙ sym (four-blocks s at)

@@ -1,8 +1,10 @@
-use mathlib.Core.Path.{_≡_, ap}
+use mathlib.Core.Path.{_≡_, sym, ap}
+use Prim.Native.Nat.{ℕ}
+use native.Mathlib.Nat.{suc-ne-zero}
 use native.Mathlib.Omega.{arith}
 use Rattle.aes.specs.declared.Key.{Key}
 use Rattle.isa.specs.Ranges.{handleLength}
-use Rattle.instructions.proofs.Handles.{three-at-least, handle-128, handle-256}
+use Rattle.instructions.proofs.Handles.{three-at-least, handle-read}
 use borrow.Author.Needs.{needs}
 use Rattle.instructions.proofs.handle_at.Statement.{statement}
 use Rattle.instructions.proofs.handle_at.Tie as tie
@@ -40,17 +42,19 @@ returns : tie.Need-returns
 returns c =
     let a = c .before .before .before .before .before .before .args in
     let low = c .before .before .block-at3 .result in
-    handle-128 (a .size)
+    handle-read
     (record { aad = c .before .before .before .before .block-at .result; tag = c .before .before .before .block-at2 .result; ciphertext = record { low = low; high = low } })
-    (a .memory .now) (a .at) (c .before .before .before .before .block-at .ensures) (c .before .before .before .block-at2 .ensures) (c .before .before .block-at3 .ensures) (c .enum-told .given .1)
+    (a .memory .now) (a .at) (c .before .before .before .before .block-at .ensures) (c .before .before .before .block-at2 .ensures) (c .before .before .block-at3 .ensures) (a .size)
+    (λ e. let z : _≡_ {A = ℕ} 0 1 = cc in absurd (suc-ne-zero 0 (sym z)))
 
 returns-2 : tie.Need-returns-2
 returns-2 c =
     let a = c .before .before .before .before .before .before .before .args in
     let ciphertext : Key = record { low = c .before .before .before .block-at3 .result; high = c .block-at4 .result } in
-    handle-256 (a .size) (record { aad = c .before .before .before .before .before .block-at .result; tag = c .before .before .before .before .block-at2 .result; ciphertext = ciphertext })
-    (a .memory .now) (a .at) (c .before .before .before .before .before .block-at .ensures) (c .before .before .before .before .block-at2 .ensures) (c .before .before .before .block-at3 .ensures)
-    (c .before .enum-told2 .given .1) (c .block-at4 .ensures)
+    handle-read
+    (record { aad = c .before .before .before .before .before .block-at .result; tag = c .before .before .before .before .block-at2 .result; ciphertext = ciphertext })
+    (a .memory .now) (a .at) (c .before .before .before .before .before .block-at .ensures) (c .before .before .before .before .block-at2 .ensures) (c .before .before .before .block-at3 .ensures) (a .size)
+    (λ e. c .block-at4 .ensures)
 
 pub handle-at-spec : {M : Type 1} → statement M
 handle-at-spec =
