@@ -54,7 +54,7 @@ pub record Asked : Type 0 where
   pub random : ℕ
   pub decoded : Decoded
 
--- in a call: `none`, or what is never refused, where it lacks the operand
+-- in a call: where it lacks an operand, `none`, a code that is known, or a register that is never at fault
 pub record Operands : Type 0 where
   pub unknownCode : Bool
   pub processor : Option ℕ
@@ -193,6 +193,7 @@ tests v o =
 
 -- ---- the calls
 
+-- what is looked at in a step
 abbrev pub asked : StepCall → Asked
 asked s =
     record {
@@ -208,13 +209,15 @@ abbrev pub ofStep : Asked → Operands
 ofStep a =
     record { unknownCode = false; processor = some (a .processor); cpl = some (cpl (a .cpu)); step = some a; registerFault = λ features. false }
 
+-- "A register call takes a processor number, a CPL, an address and, to write, 64 bits"
 abbrev pub ofRegister : ℕ → ℕ → (ℕ → Bool) → Operands
 ofRegister processor cpl fault = record { unknownCode = false; processor = some processor; cpl = some cpl; step = none; registerFault = fault }
 
+-- a call that has a code at the most
 abbrev pub ofCode : Bool → Operands
 ofCode unknown = record { unknownCode = unknown; processor = none; cpl = none; step = none; registerFault = λ features. false }
 
--- "Settle or wake code unknown."
+-- settle knows the codes 0 and 1, wake 0 to 2 (2, "Settle or wake code unknown")
 abbrev pub operands : Call → Operands
 operands (step s) = ofStep (asked s)
 operands (read r) = ofRegister (r .processor) (r .cpl) (readFault r)
