@@ -1,10 +1,13 @@
 // Addresses of handles: where a memory place is, and whether every byte of a handle there can be loaded.
 ghost use mathlib.Core.Path.{_≡_};
 ghost use Prim.Native.Nat.{_*_, _^_, _%_};
-ghost use lib.ListN.{getD};
+ghost use lib.ListN.{length};
 ghost use Rattle.isa.specs.Address as isa;
 ghost use Rattle.isa.specs.Ranges.{handleLength, someNotCanonical, someOutside};
 ghost use Rattle.isa.specs.Ranges as ranges;
+ghost use Rattle.model.specs.Cpu as cpuRecord;
+use cpu::register;
+use cpu::rip;
 use fips197::KeySize;
 use isa::Address;
 use isa::Base;
@@ -12,22 +15,24 @@ use isa::Index;
 use isa::MemoryPlace;
 use isa::Segment;
 
-fn base_value(registers: &[u64; 16], next: u64, base: Base) -> u64
-    ensures { λ r. ⌜ r ≡ isa.baseValue (λ n. getD (now (registers .entry)) n 0) next base ⌝ }
+fn base_value(cpu: &[u8], next: u64, base: Base) -> u64
+    requires { ⌜ length (now cpu) ≡ cpuRecord.cpuSize ⌝ }
+    ensures { λ r. ⌜ r ≡ isa.baseValue (λ n. cpuRecord.register n (now (cpu .entry))) next base ⌝ }
 {
     match base {
         Base::None => 0,
         Base::Rip => next,
-        Base::Register(n) => registers[(n % 16) as usize],
+        Base::Register(n) => register(cpu, n % 16),
     }
 }
 
-fn index_value(registers: &[u64; 16], index: Index) -> u64
-    ensures { λ r. ⌜ r ≡ isa.indexValue (λ n. getD (now (registers .entry)) n 0) index ⌝ }
+fn index_value(cpu: &[u8], index: Index) -> u64
+    requires { ⌜ length (now cpu) ≡ cpuRecord.cpuSize ⌝ }
+    ensures { λ r. ⌜ r ≡ isa.indexValue (λ n. cpuRecord.register n (now (cpu .entry))) index ⌝ }
 {
     match index {
         Index::None => 0,
-        Index::Register(n) => registers[(n % 16) as usize],
+        Index::Register(n) => register(cpu, n % 16),
     }
 }
 
@@ -52,15 +57,16 @@ fn segment_of(base: Base) -> Segment
     }
 }
 
-// The address and the segment of a memory place, for an instruction of so many bytes at `rip`.
-pub fn effective_address(registers: &[u64; 16], rip: u64, bytes: u64, place: MemoryPlace) -> Address
-    ensures { λ r. ⌜ r ≡ isa.effectiveAddress (λ n. getD (now (registers .entry)) n 0) rip bytes place ⌝ }
+// The address and the segment of a memory place, for an instruction of so many bytes; of the registers only base and index are read.
+pub fn effective_address(cpu: &[u8], bytes: u64, place: MemoryPlace) -> Address
+    requires { ⌜ length (now cpu) ≡ cpuRecord.cpuSize ⌝ }
+    ensures { λ r. ⌜ r ≡ isa.effectiveAddress (λ n. cpuRecord.register n (now (cpu .entry))) (cpuRecord.rip (now (cpu .entry))) bytes place ⌝ }
 {
     let base = place.base;
     let index = place.index;
-    let next = std::num::wrapping_add_u64(rip, bytes);
-    let offset = scaled(index_value(registers, index), place.scale);
-    let sum = std::num::wrapping_add_u64(base_value(registers, next, base), offset);
+    let next = std::num::wrapping_add_u64(rip(cpu), bytes);
+    let offset = scaled(index_value(cpu, index), place.scale);
+    let sum = std::num::wrapping_add_u64(base_value(cpu, next, base), offset);
     Address {
         linear: std::num::wrapping_add_u64(sum, place.displacement),
         segment: segment_of(base),

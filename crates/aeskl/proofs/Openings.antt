@@ -25,8 +25,7 @@ use Rattle.fips197.specs.declared.KeySize.{KeySize}
 use Rattle.fips197.specs.declared.KeySize.the-variants.{Aes128, Aes256}
 use Rattle.keywrap.specs.Meaning.{wholeKey, handleBytes, padded, paddedKey}
 use Rattle.keywrap.specs.declared.Handle.{Handle}
-use Rattle.model.specs.Cpu.{withZf, mapXmm}
-use Rattle.model.specs.Instructions.{typeOf, aes, forbids, illegal, openedFor, ciphered}
+use Rattle.model.specs.Instructions.{typeOf, forbids, illegal, openedFor}
 use Rattle.model.specs.declared.IwKey.{IwKey}
 
 -- ---- the AAD
@@ -162,22 +161,17 @@ module _ (k : IwKey) (cpl : ℕ) (size : KeySize) (direction : Direction) (h : H
       go none e = refl
       go (some x) e = absurd (Option·none-ne-some (padded 32 x) e)
 
-  -- ---- a use, by what its handle gave
+  -- ---- what depends on the handle, by what it gave
 
-  module _ (blocks cpu : List ℕ) where
-    abbrev after : List ℕ
-    after = ciphered direction size blocks (openedFor k cpl size direction bytes) cpu
-
-    pub illegal-used : illegal cpl size direction (bytesOf (h .aad)) ≡ true → withZf 1 cpu ≡ after
-    illegal-used e = ap (λ (o : Option (List ℕ)). ciphered direction size blocks o cpu) (sym (not-opened e))
+  module _ {A : Type 0} (f : Option (List ℕ) → A) where
+    pub illegal-used : illegal cpl size direction (bytesOf (h .aad)) ≡ true → f none ≡ f (openedFor k cpl size direction bytes)
+    illegal-used e = ap f (sym (not-opened e))
 
     pub none-used : illegal cpl size direction (bytesOf (h .aad)) ≡ false
-        → _≡_ {A = Option (List ℕ)} none (paddedKey (unwrapKey (k .integrity) (k .encryption) bytes)) → withZf 1 cpu ≡ after
-    none-used e o =
-        ap (λ (o : Option (List ℕ)). ciphered direction size blocks o cpu) (sym (opened-none (o ∙ ap paddedKey (unwrapped e))))
+        → _≡_ {A = Option (List ℕ)} none (paddedKey (unwrapKey (k .integrity) (k .encryption) bytes)) → f none ≡ f (openedFor k cpl size direction bytes)
+    none-used e o = ap f (sym (opened-none (o ∙ ap paddedKey (unwrapped e))))
 
     pub key-used : (key : Key) → illegal cpl size direction (bytesOf (h .aad)) ≡ false
         → _≡_ {A = Option (List ℕ)} (some (wholeKey key)) (paddedKey (unwrapKey (k .integrity) (k .encryption) bytes))
-        → withZf 0 (mapXmm (aes direction size (keyBytes size key)) blocks cpu) ≡ after
-    key-used key e o =
-        ap (λ (o : Option (List ℕ)). ciphered direction size blocks o cpu) (sym (opened-key key (o ∙ ap paddedKey (unwrapped e))))
+        → f (some (keyBytes size key)) ≡ f (openedFor k cpl size direction bytes)
+    key-used key e o = ap f (sym (opened-key key (o ∙ ap paddedKey (unwrapped e))))

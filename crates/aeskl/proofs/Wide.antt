@@ -2,14 +2,13 @@
 -- Assumes nothing.
 use mathlib.Core.Path.{_≡_, _∙_, refl, sym, ap, ap₂}
 use mathlib.Core.List.{List, [], _∷_, _++_, append-assoc}
-use Prim.Native.Nat.{ℕ, zero, suc, _*_, _/_, _%_, _≤_, _<_}
+use Prim.Native.Nat.{ℕ, zero, suc, _*_, _%_, _≤_, _<_}
 use native.Mathlib.Omega.{arith}
 use lib.ListN.{length, take, drop, length-drop, take-append-drop}
 use lib.Seq.{sets, length-take-le, take-append-le, drop-append-le}
 use Rattle.bits.specs.Blocks.{mapBlocks}
 use Rattle.bits.proofs.Blocks.{map-blocks-more}
 use Rattle.model.specs.Cpu.{cpuSize, xmm, withXmm, mapXmm}
-use Rattle.model.proofs.Cpu.{mapped-length}
 
 module _ (f : List ℕ → List ℕ) (whole : (b : List ℕ) → length (f b) ≡ 16) where
   -- blocks in front of others
@@ -38,13 +37,7 @@ module _ (f : List ℕ → List ℕ) (whole : (b : List ℕ) → length (f b) �
         (next 5 _ (omega arith)
         (next 4 _ (omega arith) (next 3 _ (omega arith) (next 2 _ (omega arith) (next 1 _ (omega arith) (next 0 cpu (omega arith) refl)))))))
 
-    pub wide-done : (ys : List ℕ) → ys ≡ mapBlocks f (length (take 128 cpu) / 16) (take 128 cpu) → ys ++ drop 128 cpu ≡ mapXmm f eight cpu
-    wide-done ys e =
+    pub wide-done : mapBlocks f 8 (take 128 cpu) ++ drop 128 cpu ≡ mapXmm f eight cpu
+    wide-done =
         let n : length (take 128 cpu) ≡ 128 = length-take-le 128 cpu (omega arith) in
-        ap (λ (x : List ℕ). x ++ drop 128 cpu) (e ∙ ap (λ (k : ℕ). mapBlocks f (k / 16) (take 128 cpu)) n)
-        ∙ blocks-front 8 (take 128 cpu) (drop 128 cpu) (omega arith)
-        ∙ ap (mapBlocks f 8) (take-append-drop 128 cpu)
-        ∙ sym wide-blocks
-
-    pub wide-length : (ys : List ℕ) → ys ≡ mapBlocks f (length (take 128 cpu) / 16) (take 128 cpu) → length (ys ++ drop 128 cpu) ≡ cpuSize
-    wide-length ys e = ap length (wide-done ys e) ∙ mapped-length f eight cpu ∙ l
+        blocks-front 8 (take 128 cpu) (drop 128 cpu) (omega arith) ∙ ap (mapBlocks f 8) (take-append-drop 128 cpu) ∙ sym wide-blocks

@@ -9,8 +9,9 @@ ghost use Rattle.aes.specs.Meaning.{bytesOf, keyBytes};
 ghost use Rattle.aes_blocks.specs.Tables.{MixedTable};
 ghost use Rattle.handle.specs.Wrap.{unwrapKey};
 ghost use Rattle.keywrap.specs.Meaning.{opened, paddedKey, handleBytes};
-ghost use Rattle.model.specs.Cpu.{cpl, withXmm, withZf, mapXmm};
+ghost use Rattle.model.specs.Cpu.{cpuSize, cpl};
 ghost use Rattle.model.specs.Instructions as instructions;
+ghost use Rattle.aeskl.specs.Meaning.{usedBlock, usedBlocks, usedBy};
 use aes::Block;
 use aes::Key;
 use aes::word::from_bytes;
@@ -61,14 +62,6 @@ fn illegal(cpl: u8, size: KeySize, direction: Direction, aad: Block) -> bool
         | !(w / 0x100_0000 % 16 == type_of(size))
         | ((w % 2 == 1) & (0 < cpl))
         | forbids(direction, w % 8)
-}
-
-// The same, at the CPU record's CPL.
-fn illegal_at(cpu: &[u8; 408], size: KeySize, direction: Direction, aad: Block) -> bool
-    requires { ⌜ length (now cpu) ≡ 408 ⌝ }
-    ensures { λ r. ⌜ r ≡ instructions.illegal (cpl (now (cpu .entry))) size direction (bytesOf aad) ⌝ }
-{
-    illegal(cpu::cpl(cpu), size, direction, aad)
 }
 
 // What the IWKey unwraps, by lent tables.
@@ -135,86 +128,115 @@ fn cipher_blocks(
     }
 }
 
-// The handle gave no key: the blocks stay.
-fn failed(cpu: [u8; 408]) -> [u8; 408]
-    ensures { λ r. ⌜ r ≡ withZf 1 cpu ⌝ }
-{
-    let mut kept = cpu;
-    put_zf(&mut kept, true);
-    kept
+// ---- a use, over its blocks by value
+
+// A block after a use, and ZF.
+pub struct UsedBlock {
+    pub zf: bool,
+    pub block: Block,
 }
 
-// The block goes back to its register.
-fn done_single(cpu: [u8; 408], n: u8, b: Block) -> [u8; 408]
-    ensures { λ r. ⌜ r ≡ withZf 0 (withXmm n (bytesOf b) cpu) ⌝ }
-{
-    let mut c = cpu;
-    put_xmm(&mut c, n, b);
-    put_zf(&mut c, false);
-    c
+// XMM0 to XMM7 after a use, and ZF.
+pub struct UsedBlocks {
+    pub zf: bool,
+    pub blocks: [u8; 128],
 }
 
-// XMM0 to XMM7 are the first 128 bytes of the record.
-fn done_wide(
-    mixed: &[u32; 256],
-    sbox: &[u8; 256],
+// An illegal handle is not unwrapped, and no table is made for it.
+fn used_block(
     direction: Direction,
     size: KeySize,
-    key: Key,
-    cpu: [u8; 408],
-) -> [u8; 408]
-    requires { ⌜ MixedTable (now mixed) ⌝ }
-    requires { ⌜ SboxTable (now sbox) ⌝ }
-    ensures { λ r. ⌜ r ≡ withZf 0 (mapXmm (instructions.aes direction size (keyBytes size key)) (0 ∷ 1 ∷ 2 ∷ 3 ∷ 4 ∷ 5 ∷ 6 ∷ 7 ∷ []) cpu) ⌝ }
-{
-    let mut c = cpu;
-    cipher_blocks(mixed, sbox, direction, size, key, &mut c[0..128]);
-    put_zf(&mut c, false);
-    c
-}
-
-// AESENC128KL, AESDEC128KL, AESENC256KL, AESDEC256KL. An illegal handle is not unwrapped, and no table is made for it.
-pub fn use_single(
-    direction: Direction,
-    size: KeySize,
-    block: u8,
+    cpl: u8,
     k: IwKey,
     h: Handle,
-    cpu: [u8; 408],
-) -> [u8; 408]
-    ensures { λ r. ⌜ r ≡ instructions.ciphered direction size (block ∷ []) (instructions.openedFor k (cpl cpu) size direction (handleBytes size h)) cpu ⌝ }
+    block: Block,
+) -> UsedBlock
+    ensures { λ r. ⌜ usedBlock r ≡ usedBy (instructions.aes direction size) (instructions.openedFor k cpl size direction (handleBytes size h)) (bytesOf block) ⌝ }
 {
-    if illegal_at(&cpu, size, direction, h.aad) {
-        return failed(cpu);
+    if illegal(cpl, size, direction, h.aad) {
+        return UsedBlock { zf: true, block };
     }
     let sbox = sbox_table();
     let mut mixed = [0u32; 256];
     mix_table(&sbox, &mut mixed);
     let Unwrapped::Key(key) = unwrapped_by(&mixed, &sbox, k, size, h) else {
-        return failed(cpu);
+        return UsedBlock { zf: true, block };
     };
-    let b = cipher_block(&mixed, &sbox, direction, size, key, xmm(&cpu, block));
-    done_single(cpu, block, b)
+    UsedBlock {
+        zf: false,
+        block: cipher_block(&mixed, &sbox, direction, size, key, block),
+    }
 }
 
-// The wide forms, on XMM0 to XMM7.
-pub fn use_wide(
+fn used_blocks(
     direction: Direction,
     size: KeySize,
+    cpl: u8,
     k: IwKey,
     h: Handle,
-    cpu: [u8; 408],
-) -> [u8; 408]
-    ensures { λ r. ⌜ r ≡ instructions.ciphered direction size (0 ∷ 1 ∷ 2 ∷ 3 ∷ 4 ∷ 5 ∷ 6 ∷ 7 ∷ []) (instructions.openedFor k (cpl cpu) size direction (handleBytes size h)) cpu ⌝ }
+    blocks: [u8; 128],
+) -> UsedBlocks
+    ensures { λ r. ⌜ usedBlocks r ≡ usedBy (λ key. mapBlocks (instructions.aes direction size key) 8) (instructions.openedFor k cpl size direction (handleBytes size h)) blocks ⌝ }
 {
-    if illegal_at(&cpu, size, direction, h.aad) {
-        return failed(cpu);
+    if illegal(cpl, size, direction, h.aad) {
+        return UsedBlocks { zf: true, blocks };
     }
     let sbox = sbox_table();
     let mut mixed = [0u32; 256];
     mix_table(&sbox, &mut mixed);
     let Unwrapped::Key(key) = unwrapped_by(&mixed, &sbox, k, size, h) else {
-        return failed(cpu);
+        return UsedBlocks { zf: true, blocks };
     };
-    done_wide(&mixed, &sbox, direction, size, key, cpu)
+    let mut ciphered = blocks;
+    cipher_blocks(&mixed, &sbox, direction, size, key, &mut ciphered);
+    UsedBlocks {
+        zf: false,
+        blocks: ciphered,
+    }
+}
+
+// ---- a use, in the CPU record
+
+// AESENC128KL, AESDEC128KL, AESENC256KL, AESDEC256KL.
+pub fn use_single(direction: Direction, size: KeySize, n: u8, k: IwKey, h: Handle, cpu: &mut [u8])
+    requires { ⌜ length (now cpu) ≡ cpuSize ⌝ }
+    ensures { λ _. ⌜ now (cpu .exit) ≡ instructions.ciphered direction size (n ∷ []) (instructions.openedFor k (cpl (now (cpu .entry))) size direction (handleBytes size h)) (now (cpu .entry)) ⌝ }
+{
+    let used = used_block(direction, size, cpu::cpl(cpu), k, h, xmm(cpu, n));
+    let block = used.block;
+    put_xmm(cpu, n, block);
+    put_zf(cpu, used.zf);
+}
+
+// Eight blocks, once their length is known.
+fn eight_blocks(s: &[u8]) -> [u8; 128]
+    requires { ⌜ length (now s) ≡ 128 ⌝ }
+    ensures { λ r. ⌜ r ≡ now (s .entry) ⌝ }
+{
+    let mut blocks = [0u8; 128];
+    for i in 0..128usize {
+        blocks[i] = s[i];
+    }
+    blocks
+}
+
+fn put_eight_blocks(s: &mut [u8], blocks: [u8; 128])
+    requires { ⌜ length (now s) ≡ 128 ⌝ }
+    ensures { λ _. ⌜ now (s .exit) ≡ blocks ⌝ }
+{
+    for i in 0..128usize {
+        s[i] = blocks[i];
+    }
+}
+
+// The wide forms, on XMM0 to XMM7: the first 128 bytes of the record.
+pub fn use_wide(direction: Direction, size: KeySize, k: IwKey, h: Handle, cpu: &mut [u8])
+    requires { ⌜ length (now cpu) ≡ cpuSize ⌝ }
+    ensures { λ _. ⌜ now (cpu .exit) ≡ instructions.ciphered direction size (0 ∷ 1 ∷ 2 ∷ 3 ∷ 4 ∷ 5 ∷ 6 ∷ 7 ∷ []) (instructions.openedFor k (cpl (now (cpu .entry))) size direction (handleBytes size h)) (now (cpu .entry)) ⌝ }
+{
+    let before = eight_blocks(&cpu[0..128]);
+    let used = used_blocks(direction, size, cpu::cpl(cpu), k, h, before);
+    let blocks = used.blocks;
+    put_eight_blocks(&mut cpu[0..128], blocks);
+    put_zf(cpu, used.zf);
 }

@@ -1,8 +1,8 @@
 // The CPU record: what stands in its 408 bytes, read and written in place. Whoever lends a record has seen to its length (refusal 4).
 ghost use mathlib.Core.Path.{_≡_};
 ghost use mathlib.Core.Bool.{cond};
-ghost use Prim.Native.Nat.{ℕ, _+_, _<_, _≤_};
-ghost use lib.ListN.{length, getD};
+ghost use Prim.Native.Nat.{_+_, _≤_};
+ghost use lib.ListN.{length};
 ghost use lib.Seq.{sets};
 ghost use Rattle.bits.specs.Words.{leBytes, leValue};
 ghost use Rattle.aes.specs.Meaning.{bytesOf};
@@ -88,19 +88,6 @@ pub fn register_of(o: Operand) -> u8
         Operand::Register(n) => n,
         Operand::Memory(_) => 0,
     }
-}
-
-// All sixteen, as the effective address wants them.
-pub fn registers(cpu: &[u8]) -> [u64; 16]
-    requires { ⌜ length (now cpu) ≡ cpuRecord.cpuSize ⌝ }
-    ensures { λ r. ⌜ ((n : ℕ) → n < 16 → getD r n 0 ≡ cpuRecord.register n (now (cpu .entry))) ⌝ }
-{
-    let mut r = [0u64; 16];
-    for i in 0..16usize {
-        let x = quad_at(cpu, REGISTERS + 8 * i);
-        r[i] = x;
-    }
-    r
 }
 
 pub fn rip(cpu: &[u8]) -> u64

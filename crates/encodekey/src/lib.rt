@@ -107,19 +107,18 @@ fn handle_of(e: EncodeKey, k: IwKey, cpu: &[u8]) -> Handle
     )
 }
 
-pub fn encode(e: EncodeKey, k: IwKey, cpu: [u8; 408]) -> [u8; 408]
-    ensures { λ r. ⌜ r ≡ instructions.encoded e k cpu ⌝ }
+pub fn encode(e: EncodeKey, k: IwKey, cpu: &mut [u8])
+    requires { ⌜ length (now cpu) ≡ cpuSize ⌝ }
+    ensures { λ _. ⌜ now (cpu .exit) ≡ instructions.encoded e k (now (cpu .entry)) ⌝ }
 {
     let size = e.size;
-    let h = handle_of(e, k, &cpu);
-    let mut c = cpu;
-    put_handle(&mut c, size, h);
-    clear_xmm(&mut c);
+    let h = handle_of(e, k, cpu);
+    put_handle(cpu, size, h);
+    clear_xmm(cpu);
     put_register(
-        &mut c,
+        cpu,
         e.destination,
         (k.no_backup as u64) + 2 * (k.source as u64),
     );
-    put_zf(&mut c, false);
-    c
+    put_zf(cpu, false);
 }

@@ -9,7 +9,8 @@ ghost use Rattle.model.specs.Numbers.{part};
 ghost use Rattle.model.specs.Cpu.{cpuSize};
 ghost use Rattle.model.specs.Forms as forms;
 ghost use Rattle.model.specs.Instructions as instructions;
-ghost use Rattle.loadiwkey.specs.Meaning.{randomData, executedOf};
+ghost use Rattle.loadiwkey.specs.Meaning.{randomData, executed};
+ghost use Rattle.instructions.specs.Meaning.{usedAt, executeAt, passed};
 use aes::Key;
 use aes::word::block_at;
 use aeskl::use_single;
@@ -23,24 +24,10 @@ use isa::Instruction;
 use isa::Use;
 use isa::WideUse;
 use keywrap::Handle;
-use loadiwkey::Executed;
 use loadiwkey::Random;
 use loadiwkey::load;
 use model::IwKey;
-use refusals::handle_address;
 use std::num::wrapping_add_u64;
-
-// The bytes of a CPU record, once its length is known.
-pub fn record_of(cpu: &[u8]) -> [u8; 408]
-    requires { ⌜ length (now cpu) ≡ cpuSize ⌝ }
-    ensures { λ r. ⌜ r ≡ now (cpu .entry) ⌝ }
-{
-    let mut c = [0u8; 408];
-    for i in 0..408usize {
-        c[i] = cpu[i];
-    }
-    c
-}
 
 // The handle at an address of memory; for 128 bits the high half of the ciphertext is not read.
 fn handle_at(memory: &[u8], at: usize, size: KeySize) -> Handle
@@ -68,72 +55,78 @@ fn handle_at(memory: &[u8], at: usize, size: KeySize) -> Handle
 }
 
 // RIP moves past the instruction, modulo 2^64.
-pub fn advance(cpu: [u8; 408], bytes: u64) -> [u8; 408]
-    ensures { λ r. ⌜ r ≡ instructions.advanced bytes cpu ⌝ }
+fn advance(cpu: &mut [u8], bytes: u64)
+    requires { ⌜ length (now cpu) ≡ cpuSize ⌝ }
+    ensures { λ _. ⌜ now (cpu .exit) ≡ instructions.advanced bytes (now (cpu .entry)) ⌝ }
 {
-    let next = wrapping_add_u64(rip(&cpu), bytes);
-    let mut c = cpu;
-    put_rip(&mut c, next);
-    c
+    let next = wrapping_add_u64(rip(cpu), bytes);
+    put_rip(cpu, next);
 }
 
 // ---- the instructions
 
 // The four forms on one block.
-fn single(u: Use, bytes: u64, memory: &[u8], k: IwKey, cpu: [u8; 408]) -> [u8; 408]
-    requires { ⌜ forms.handleAddress cpu bytes (u .handle) .linear + handleLength (u .size) ≤ length (now memory) ⌝ }
-    ensures { λ r. ⌜ r ≡ instructions.used (now (memory .entry)) bytes (forms.single u) k cpu ⌝ }
+fn single(u: Use, at: u64, memory: &[u8], k: IwKey, cpu: &mut [u8])
+    requires { ⌜ length (now cpu) ≡ cpuSize ⌝ }
+    requires { ⌜ at + handleLength (u .size) ≤ length (now memory) ⌝ }
+    ensures { λ _. ⌜ now (cpu .exit) ≡ usedAt at (now (memory .entry)) (forms.single u) k (now (cpu .entry)) ⌝ }
 {
     let direction = u.direction;
     let size = u.size;
-    let operand = u.handle;
-    let a = handle_address(&cpu, bytes, operand);
-    let h = handle_at(memory, a.linear as usize, size);
-    use_single(direction, size, u.block, k, h, cpu)
+    let h = handle_at(memory, at as usize, size);
+    use_single(direction, size, u.block, k, h, cpu);
 }
 
 // The four wide forms.
-fn wide(u: WideUse, bytes: u64, memory: &[u8], k: IwKey, cpu: [u8; 408]) -> [u8; 408]
-    requires { ⌜ forms.handleAddress cpu bytes (u .handle) .linear + handleLength (u .size) ≤ length (now memory) ⌝ }
-    ensures { λ r. ⌜ r ≡ instructions.used (now (memory .entry)) bytes (forms.wide u) k cpu ⌝ }
+fn wide(u: WideUse, at: u64, memory: &[u8], k: IwKey, cpu: &mut [u8])
+    requires { ⌜ length (now cpu) ≡ cpuSize ⌝ }
+    requires { ⌜ at + handleLength (u .size) ≤ length (now memory) ⌝ }
+    ensures { λ _. ⌜ now (cpu .exit) ≡ usedAt at (now (memory .entry)) (forms.wide u) k (now (cpu .entry)) ⌝ }
 {
     let direction = u.direction;
     let size = u.size;
-    let operand = u.handle;
-    let a = handle_address(&cpu, bytes, operand);
-    let h = handle_at(memory, a.linear as usize, size);
-    use_wide(direction, size, k, h, cpu)
+    let h = handle_at(memory, at as usize, size);
+    use_wide(direction, size, k, h, cpu);
 }
 
-fn encoded(e: EncodeKey, k: IwKey, cpu: [u8; 408]) -> Executed
-    ensures { λ r. ⌜ executedOf r ≡ record { key = k; cpu = instructions.encoded e k cpu } ⌝ }
-{
-    let c = encode(e, k, cpu);
-    Executed { key: k, cpu: c }
-}
-
-// An instruction that no refusal stops: a use's handle lies in memory.
-pub fn execute(
-    what: Instruction,
-    bytes: u64,
-    memory: &[u8],
-    random: Random,
-    k: IwKey,
-    cpu: [u8; 408],
-) -> Executed
-    requires { ⌜ ((f : forms.Form) → forms.formOf what ≡ some f → forms.handleAddress cpu bytes (f .handle) .linear + handleLength (f .size) ≤ length (now memory)) ⌝ }
-    ensures { λ r. ⌜ executedOf r ≡ instructions.execute (now (memory .entry)) (randomData random) what bytes k cpu ⌝ }
+// What an instruction does but for RIP, and the IWKey after it.
+fn act(what: Instruction, at: u64, memory: &[u8], random: Random, k: IwKey, cpu: &mut [u8]) -> IwKey
+    requires { ⌜ length (now cpu) ≡ cpuSize ⌝ }
+    requires { ⌜ ((f : forms.Form) → forms.formOf what ≡ some f → at + handleLength (f .size) ≤ length (now memory)) ⌝ }
+    ensures { λ r. ⌜ executed r (now (cpu .exit)) ≡ executeAt at (now (memory .entry)) (randomData random) what k (now (cpu .entry)) ⌝ }
 {
     match what {
         Instruction::Use(u) => {
-            let c = single(u, bytes, memory, k, cpu);
-            Executed { key: k, cpu: c }
+            single(u, at, memory, k, cpu);
+            k
         }
         Instruction::WideUse(u) => {
-            let c = wide(u, bytes, memory, k, cpu);
-            Executed { key: k, cpu: c }
+            wide(u, at, memory, k, cpu);
+            k
         }
         Instruction::LoadIwKey(l) => load(l, random, k, cpu),
-        Instruction::EncodeKey(e) => encoded(e, k, cpu),
+        Instruction::EncodeKey(e) => {
+            encode(e, k, cpu);
+            k
+        }
     }
+}
+
+// An instruction of so many bytes that no refusal stops, and the IWKey after it: a use's handle lies in memory at `at`.
+pub fn execute(
+    what: Instruction,
+    bytes: u64,
+    at: u64,
+    memory: &[u8],
+    random: Random,
+    k: IwKey,
+    cpu: &mut [u8],
+) -> IwKey
+    requires { ⌜ length (now cpu) ≡ cpuSize ⌝ }
+    requires { ⌜ ((f : forms.Form) → forms.formOf what ≡ some f → at + handleLength (f .size) ≤ length (now memory)) ⌝ }
+    ensures { λ r. ⌜ executed r (now (cpu .exit)) ≡ passed bytes (executeAt at (now (memory .entry)) (randomData random) what k (now (cpu .entry))) ⌝ }
+{
+    let key = act(what, at, memory, random, k, cpu);
+    advance(cpu, bytes);
+    key
 }

@@ -1,27 +1,30 @@
 -- A call by value, through the layout, keeps its promise.
 -- Assumes nothing.
-use mathlib.Core.Path.{_≡_, _∙_, refl, sym, ap, subst}
+use mathlib.Core.Path.{_≡_, _∙_, refl, sym, ap, ap₂, subst}
 use mathlib.Core.Bool.{Bool, true, false, cond}
 use mathlib.Core.List.{List, []}
-use Prim.Native.Nat.{ℕ}
+use Prim.Native.Nat.{ℕ, _+_, _*_, _%_}
 use native.Mathlib.Nat.{suc-ne-zero}
+use native.Mathlib.Omega.{arith}
 use lib.Dec.{eqb}
-use lib.ListN.{length}
+use lib.ListN.{length, getD}
+use lib.Seq.{sets}
 use borrow.Author.Tests.{eqb-true, eqb-false, eq-eqb, ne-eqb}
 use Rattle.bits.proofs.Choice.{cond-on, cond-off, on-cond}
 use Rattle.model.specs.Calls.{PowerOn, StepCall, ReadCall, Call, step, read, write, settle, sleep, reset}
 use Rattle.model.specs.Calls as calls
 use Rattle.model.specs.Execution.{powerOnRefusal, refused, perform, numberOf, call, powerOn}
-use Rattle.model.specs.Layout.{machineSize, machineBytes, machineAt}
+use Rattle.model.specs.Layout.{entrySize, machineSize, entryBytes, machineBytes, machineAt}
 use Rattle.model.specs.Lent.{Lent, into, wrongSize, powerOnLent, callLent}
 use Rattle.model.specs.declared.Machine.{Machine}
 use Rattle.model.proofs.Bytes.{bytes-at}
 use Rattle.model.proofs.Frames.{by-number, read-kept}
-use Rattle.machine.specs.Meaning.{outcomeOf}
+use Rattle.model.proofs.InPlace.{processor-few, step-entry}
+use Rattle.model.specs.Records.{noProcessor}
+use Rattle.machine.specs.Meaning.{numberOf as numberIn, answerOf, outcomeOf, Left, left, leftOf}
 use Rattle.machine.specs.declared.Answer.{Answer}
 use Rattle.machine.specs.declared.Answer.the-variants.{Done, Refused}
 use Rattle.machine.specs.declared.Outcome.{Outcome}
-use Rattle.lent.specs.Meaning.{Left, left, leftOf}
 use Rattle.keylocker.specs.Meaning.{called, calledOf, answered, finished, readAnswered}
 use Rattle.keylocker.specs.Promises.{answer, gave, PowerOnPromise, StepPromise, ReadPromise}
 
@@ -200,6 +203,14 @@ module _ (block : List ℕ) (r : ReadCall) (old : ℕ) where
 
 -- ---- a step
 
+-- the number that an answer was made of
+number-in : (n : ℕ) → numberIn (answerOf n) ≡ n
+number-in n = go (eqb n 0) refl
+  where
+    go : (t : Bool) → eqb n 0 ≡ t → numberIn (cond t Done (Refused n)) ≡ n
+    go true e = sym (eqb-true n 0 e)
+    go false e = refl
+
 module _ (block : List ℕ) (s : StepCall) where
   pub step-short : (length block ≡ machineSize → ⊥) → StepPromise block s block (s .cpu) 1
   unfolding callLent
@@ -217,3 +228,18 @@ module _ (block : List ℕ) (s : StepCall) where
       promised block after r cpu _ (step s)
       (f ∙ ap (λ (x : Left). answered block (x .machine) (x .answer)) e ∙ finished-of block o ∙ sym (ap calledOf (cond-on here _ _)))
       ((λ j. e j .cpu) ∙ sym (ap (λ (x : Lent). x .answer .cpu) (cond-on here _ _))) refl
+
+  -- it changes one entry of the block: to write that is to write the machine
+  pub step-block : (cpu : List ℕ) (m n : Machine) (a : Answer) → length block ≡ machineSize → m ≡ machineAt block → left a n cpu ≡ leftOf (call m (step s))
+      → a ≡ Done → (after : List ℕ)
+      → after ≡ sets block (2 + s .processor % 16 * entrySize) (entryBytes (getD (n .processors) (s .processor % 16) noProcessor))
+      → called 0 after ≡ answered block n a
+  step-block cpu m n a h w d f after e =
+      let o = call (machineAt block) (step s) in
+      let g = d ∙ ap (λ (x : Machine). leftOf (call x (step s))) w in
+      let accepted : o .answer .number ≡ 0 = sym (number-in (o .answer .number)) ∙ ap numberIn (sym (ap (λ (x : Left). x .answer) g) ∙ f) in
+      let few = processor-few block h s accepted in
+      let p : s .processor % 16 ≡ s .processor = omega (arith, few) in
+      let same : n ≡ o .machine = ap (λ (x : Left). x .machine) g in
+      let written : Machine → ℕ → List ℕ = λ x k. sets block (2 + k * entrySize) (entryBytes (getD (x .processors) k noProcessor)) in
+      (λ j. called 0 ((e ∙ ap₂ written same p ∙ step-entry block h s accepted ∙ ap machineBytes (sym same)) j)) ∙ ap (answered block n) (sym f)

@@ -5,6 +5,7 @@ ghost use Rattle.model.specs.Layout.{machineSize};
 ghost use Rattle.keylocker.specs.Meaning.{called, finished};
 ghost use Rattle.keylocker.specs.Promises.{PowerOnPromise, StepPromise, ReadPromise, WritePromise, SettlePromise, SleepPromise, ResetPromise};
 use layout::read_machine;
+use layout::write_entry;
 use layout::write_machine;
 use lent::step_through;
 use machine::Answer;
@@ -135,10 +136,11 @@ pub extern "C" fn keylocker_step(
     let t = step_through(m, processor, cpu, memory, random, string);
     let after = t.machine;
     let answer = t.answer;
-    let o = Outcome {
-        machine: after,
-        answer,
-        value: 0,
-    };
-    finish(machine, o)
+    match answer {
+        Answer::Refused(number) => number as u32,
+        Answer::Done => {
+            write_entry(machine, processor, after);
+            0
+        }
+    }
 }

@@ -1,11 +1,11 @@
 // The scope, "Records": "For C it is lent as 924 bytes". A call reads and writes them all, so bytes go in runs of fixed length, which are
 // compiled to wide moves.
 ghost use mathlib.Core.Path.{_≡_};
-ghost use Prim.Native.Nat.{_+_, _*_, _≤_, _<_};
-ghost use lib.ListN.{length, drop};
+ghost use Prim.Native.Nat.{_+_, _*_, _%_, _≤_, _<_};
+ghost use lib.ListN.{length, getD, drop};
 ghost use lib.Seq.{sets};
 ghost use Rattle.model.specs.Numbers.{part};
-ghost use Rattle.model.specs.Records.{processorLimit};
+ghost use Rattle.model.specs.Records.{processorLimit, noProcessor};
 ghost use Rattle.model.specs.Layout as layout;
 use model::IwKey;
 use model::Machine;
@@ -250,4 +250,14 @@ pub fn write_machine(s: &mut [u8], m: Machine)
     s[1] = m.features;
     put_entries(s, ENTRIES, processors);
     put_platform(s, PLATFORM, platform);
+}
+
+// A processor's entry alone, where nothing else of the machine has changed.
+pub fn write_entry(s: &mut [u8], p: u8, m: Machine)
+    requires { ⌜ length (now s) ≡ layout.machineSize ⌝ }
+    ensures { λ _. ⌜ now (s .exit) ≡ sets (now (s .entry)) (2 + p % 16 * layout.entrySize) (layout.entryBytes (getD (m .processors) (p % 16) noProcessor)) ⌝ }
+{
+    let i = (p % 16) as usize;
+    let e = m.processors[i];
+    put_entry(s, ENTRIES + i * ENTRY_SIZE, e);
 }

@@ -1,53 +1,13 @@
 // A step on a lent machine and a lent CPU record: both are found advanced after the call, and as they were where it is refused.
 // The borrow checker covers no function over a reference to a struct, and none that lends one: `step_lent` and `step_through` are thin and proved by hand,
-// and `take_step` does the work.
+// and `machine::step` does the work.
 ghost use mathlib.Core.Path.{_≡_};
-ghost use lib.ListN.{length};
 ghost use Rattle.model.specs.Calls.{step};
-ghost use Rattle.model.specs.Cpu.{cpuSize};
 ghost use Rattle.model.specs.Execution as execution;
-ghost use Rattle.lent.specs.Meaning.{left, leftOf};
+ghost use Rattle.machine.specs.Meaning.{left, leftOf};
 use machine::Answer;
+use machine::Stepped;
 use model::Machine;
-
-// The machine after a step, and the answer. The CPU record is lent.
-pub struct Taken {
-    pub machine: Machine,
-    pub answer: Answer,
-}
-
-fn write_record(cpu: &mut [u8], bytes: [u8; 408])
-    requires { ⌜ length (now cpu) ≡ cpuSize ⌝ }
-    ensures { λ _. ⌜ now (cpu .exit) ≡ bytes ⌝ }
-{
-    for i in 0..408usize {
-        cpu[i] = bytes[i];
-    }
-}
-
-// A step with the machine by value and the CPU record lent.
-fn take_step(
-    m: Machine,
-    processor: u8,
-    cpu: &mut [u8],
-    memory: &[u8],
-    random: &[u8],
-    string: &[u8],
-) -> Taken
-    ensures { λ r. ⌜ left (r .answer) (r .machine) (now (cpu .exit)) ≡ leftOf (execution.call m (step (record { processor = processor; cpu = now (cpu .entry); memory = now (memory .entry); random = now (random .entry); string = now (string .entry) }))) ⌝ }
-{
-    let r = machine::step(m, processor, cpu, memory, random, string);
-    let machine = r.machine;
-    let answer = r.answer;
-    match answer {
-        Answer::Refused(n) => Taken { machine, answer },
-        Answer::Done => {
-            let c = r.cpu;
-            write_record(cpu, c);
-            Taken { machine, answer }
-        }
-    }
-}
 
 pub fn step_lent(
     m: &mut Machine,
@@ -59,7 +19,7 @@ pub fn step_lent(
 ) -> Answer
     ensures { λ r. ⌜ left r (now (m .exit)) (now (cpu .exit)) ≡ leftOf (execution.call (now (m .entry)) (step (record { processor = processor; cpu = now (cpu .entry); memory = now (memory .entry); random = now (random .entry); string = now (string .entry) }))) ⌝ }
 {
-    let r = take_step(*m, processor, cpu, memory, random, string);
+    let r = machine::step(*m, processor, cpu, memory, random, string);
     *m = r.machine;
     r.answer
 }
@@ -72,10 +32,10 @@ pub fn step_through(
     memory: &[u8],
     random: &[u8],
     string: &[u8],
-) -> Taken
+) -> Stepped
     ensures { λ t. ⌜ left (t .answer) (t .machine) (now (cpu .exit)) ≡ leftOf (execution.call m (step (record { processor = processor; cpu = now (cpu .entry); memory = now (memory .entry); random = now (random .entry); string = now (string .entry) }))) ⌝ }
 {
     let mut n = m;
     let answer = step_lent(&mut n, processor, cpu, memory, random, string);
-    Taken { machine: n, answer }
+    Stepped { machine: n, answer }
 }

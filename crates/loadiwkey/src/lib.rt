@@ -5,7 +5,7 @@ ghost use Rattle.bits.specs.Bytes.{xorBytes};
 ghost use Rattle.model.specs.Cpu.{cpuSize};
 ghost use Rattle.model.specs.Forms.{keySource, noBackup};
 ghost use Rattle.model.specs.Instructions as instructions;
-ghost use Rattle.loadiwkey.specs.Meaning.{randomData, executedOf};
+ghost use Rattle.loadiwkey.specs.Meaning.{randomData, executed};
 use aes::word::put_block;
 use aes::word::to_bytes;
 use cpu::put_zf;
@@ -19,12 +19,6 @@ use model::IwKey;
 pub struct Random {
     pub ready: bool,
     pub bytes: [u8; 48],
-}
-
-// An IWKey and a CPU record after an instruction.
-pub struct Executed {
-    pub key: IwKey,
-    pub cpu: [u8; 408],
 }
 
 // EAX bits 4:1.
@@ -88,23 +82,22 @@ fn mixed(k: IwKey, random: [u8; 48]) -> IwKey
     }
 }
 
-// Not ready at key source 1: ZF is 1 and the IWKey is kept.
-pub fn load(l: LoadIwKey, random: Random, k: IwKey, cpu: [u8; 408]) -> Executed
-    ensures { λ r. ⌜ executedOf r ≡ instructions.load l (randomData random) k cpu ⌝ }
+// The IWKey after it. Not ready at key source 1: ZF is 1 and the IWKey is kept.
+pub fn load(l: LoadIwKey, random: Random, k: IwKey, cpu: &mut [u8]) -> IwKey
+    requires { ⌜ length (now cpu) ≡ cpuSize ⌝ }
+    ensures { λ r. ⌜ executed r (now (cpu .exit)) ≡ instructions.load l (randomData random) k (now (cpu .entry)) ⌝ }
 {
-    let source = key_source(&cpu);
-    let plain = plain_key(l, &cpu);
+    let source = key_source(cpu);
+    let plain = plain_key(l, cpu);
     let bytes = random.bytes;
-    let mut c = cpu;
     if source != 1 {
-        put_zf(&mut c, false);
-        return Executed { key: plain, cpu: c };
+        put_zf(cpu, false);
+        return plain;
     }
     if random.ready {
-        let key = mixed(plain, bytes);
-        put_zf(&mut c, false);
-        return Executed { key, cpu: c };
+        put_zf(cpu, false);
+        return mixed(plain, bytes);
     }
-    put_zf(&mut c, true);
-    Executed { key: k, cpu: c }
+    put_zf(cpu, true);
+    k
 }

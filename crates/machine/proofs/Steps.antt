@@ -1,35 +1,40 @@
 -- Register calls and steps that are done, by value.
 -- Assumes nothing.
 use mathlib.Core.Path.{_≡_, _∙_, refl, sym, ap, ap₂}
-use mathlib.Core.Bool.{Bool, true, _||_}
+use mathlib.Core.Bool.{Bool, true, false, _||_, true≢false}
 use mathlib.Core.List.{List, [], _∷_}
-use mathlib.Core.Option.{some}
+use mathlib.Core.Option.{Option, none, some}
 use Prim.Native.Nat.{ℕ, _%_}
 use native.Mathlib.Nat.{suc-ne-zero}
 use native.Mathlib.Omega.{arith}
 use lib.Dec.{eqb}
-use lib.ListN.{length, getD, set, replicate}
-use borrow.Author.Tests.{eqb-true, ne-eqb}
-use Rattle.bits.proofs.Choice.{cond-off, true-T}
+use lib.ListN.{length, getD, set}
+use borrow.Author.Tests.{eqb-true, eq-eqb, ne-eqb}
+use Rattle.bits.proofs.Choice.{cond-on, true-T}
 use Rattle.isa.specs.Decode.{decode}
 use Rattle.model.specs.Calls.{StepCall, ReadCall, WriteCall, Call, step, read, write}
-use Rattle.model.specs.Cpu.{cpuSize}
 use Rattle.model.specs.Records.{processorAt, noProcessor, withKey, withProcessors, withProcessor, withPlatform}
 use Rattle.model.specs.Validity.{valid}
 use Rattle.model.specs.Refusals.{View, randomLength, operands, stepRefusal, refusal}
 use Rattle.isa.specs.declared.Decoded.{Decoded}
 use Rattle.isa.specs.declared.Decoded.the-variants as decoded
+use Rattle.isa.specs.declared.Instruction.{Instruction}
+use Rattle.isa.specs.declared.LoadIwKey.{LoadIwKey}
+use Rattle.model.specs.Forms.{Form, formOf, handleAddress}
+use Rattle.model.specs.History.{loadIn, makes}
 use Rattle.model.specs.Instructions.{Executed, stepped, executed}
 use Rattle.model.specs.declared.IwKey.{IwKey}
 use Rattle.model.specs.Backup.{Copied, registerRead, written}
 use Rattle.model.specs.Execution.{viewOf, refused, perform, call}
 use Rattle.model.specs.declared.Machine.{Machine}
 use Rattle.model.specs.declared.Processor.{Processor}
+use Rattle.model.proofs.Frames.{step-loads}
 use Rattle.model.proofs.Refusals.{processor-below, step-asked}
 use Rattle.model.proofs.Validities.{count-few}
-use Rattle.machine.specs.Meaning.{outcomeOf, steppedOf}
+use Rattle.refusals.specs.Parts.{tested, loadedFrom}
+use Rattle.refusals.specs.declared.Tested.{Tested}
+use Rattle.machine.specs.Meaning.{outcomeOf, isLoad, Left, left, leftOf}
 use Rattle.machine.specs.declared.Answer.the-variants.{Done, Refused}
-use Rattle.machine.specs.declared.Stepped.{Stepped}
 use Rattle.machine.proofs.Calls.{answer-refused, performed, doneWith}
 
 -- the refusal of a step, once its string is decoded
@@ -68,30 +73,42 @@ module _ (m : Machine) (v : valid m ≡ true) where
       (y ∙ ap (λ (d : Processor). written (w .address) (w .value) d (m .platform)) (q ∙ ap (λ (k : ℕ). getD (m .processors) k noProcessor) p))
       ∙ sym (ap outcomeOf (performed m (write w) v a))
 
-  pub step-done : (s : StepCall) → refusal (viewOf m) (step s) ≡ 0 → (e : Processor) → e ≡ getD (m .processors) (s .processor % 16) noProcessor
-      → (x : Executed) → x ≡ executed s (e .key)
-      → record { machine = withProcessors (set (m .processors) (s .processor % 16) (withKey (x .key) e)) m; answer = Done; cpu = x .cpu }
-      ≡ steppedOf (call m (step s))
-  unfolding perform
-  step-done s a e q x y =
-      let p = below-16 m (step s) (s .processor) v a refl in
-      let same : e ≡ processorAt m (s .processor) = q ∙ ap (λ (k : ℕ). getD (m .processors) k noProcessor) p in
-      let to : ℕ → Executed → Processor → Stepped =
-      λ k z d. record { machine = withProcessors (set (m .processors) k (withKey (z .key) d)) m; answer = Done; cpu = z .cpu } in
-      ap₂ (λ (k : ℕ) (z : Executed). to k z e) p y
-      ∙ ap (λ (d : Processor). to (s .processor) (executed s (d .key)) d) same
-      ∙ sym (ap steppedOf (performed m (step s) v a))
+  module _ (s : StepCall) (a : refusal (viewOf m) (step s) ≡ 0) (e : Processor) (q : e ≡ getD (m .processors) (s .processor % 16) noProcessor) where
+    pub step-done : (x : Executed) → x ≡ executed s (e .key)
+        → left Done (withProcessors (set (m .processors) (s .processor % 16) (withKey (x .key) e)) m) (x .cpu) ≡ leftOf (call m (step s))
+    unfolding perform
+    step-done x y =
+        let p = below-16 m (step s) (s .processor) v a refl in
+        let same : e ≡ processorAt m (s .processor) = q ∙ ap (λ (k : ℕ). getD (m .processors) k noProcessor) p in
+        let to : ℕ → Executed → Processor → Left = λ k z d. left Done (withProcessors (set (m .processors) k (withKey (z .key) d)) m) (z .cpu) in
+        ap₂ (λ (k : ℕ) (z : Executed). to k z e) p y
+        ∙ ap (λ (d : Processor). to (s .processor) (executed s (d .key)) d) same
+        ∙ sym (ap leftOf (performed m (step s) v a))
+
+    -- without a LOADIWKEY the machine is as it was
+    pub step-kept : (x : Executed) → x ≡ executed s (e .key) → isLoad (loadIn (decode (s .string))) ≡ false → left Done m (x .cpu) ≡ leftOf (call m (step s))
+    step-kept x y n =
+        let p = step-done x y in
+        λ j. left (p j .answer) (sym (step-loads m s (not-made (loadIn (decode (s .string))) n)) j) (p j .cpu)
+      where
+        not-made : (o : Option LoadIwKey) → isLoad o ≡ false → makes s o ≡ false
+        not-made none e = refl
+        not-made (some l) e = absurd (true≢false e)
 
 pub step-refused : (m : Machine) (s : StepCall) (n : ℕ) → (n ≡ 0 → ⊥) → call m (step s) ≡ refused n m (step s)
-    → record { machine = m; answer = Refused n; cpu = replicate cpuSize 0 } ≡ steppedOf (call m (step s))
-step-refused m s n h e =
-    (λ j.
-    record {
-      machine = m;
-      answer = sym (answer-refused n h) j;
-      cpu = sym (cond-off (ne-eqb n 0 h) (s .cpu) (replicate cpuSize 0)) j;
-    })
-    ∙ ap steppedOf (sym e)
+    → left (Refused n) m (s .cpu) ≡ leftOf (call m (step s))
+step-refused m s n h e = (λ j. left (sym (answer-refused n h) j) m (s .cpu)) ∙ ap leftOf (sym e)
+
+-- ---- what the tests gave
+
+-- a step that passes them loads its handle from where its operand says
+pub placed : (t : Tested) (n l : ℕ) (cpu : List ℕ) (what : Instruction) (bytes : ℕ) (f : Form) → t ≡ tested n l → t .number ≡ 0
+    → l ≡ loadedFrom cpu bytes (formOf what) → formOf what ≡ some f → t .linear ≡ handleAddress cpu bytes (f .handle) .linear
+placed t n l cpu what bytes f e z p q =
+    ap (λ (x : Tested). x .linear) e
+    ∙ cond-on (ap (λ (x : Tested). eqb (x .number) 0) (sym e) ∙ eq-eqb (t .number) 0 z) l 0
+    ∙ p
+    ∙ ap (loadedFrom cpu bytes) q
 
 -- ---- random data
 

@@ -6,23 +6,24 @@ ghost use mathlib.Core.Option.{some};
 ghost use Rattle.isa.specs.Ranges.{handleLength};
 ghost use Rattle.isa.specs.declared.Decoded.the-variants as decoded;
 ghost use Rattle.isa.specs.declared.Instruction.{Instruction};
-ghost use Rattle.loadiwkey.specs.Meaning.{randomData, executedOf};
+ghost use Rattle.loadiwkey.specs.Meaning.{randomData};
+ghost use Rattle.loadiwkey.specs.Meaning as loading;
 ghost use Rattle.model.specs.Calls.{step, read, write, settle, sleep, reset};
 ghost use Rattle.model.specs.Cpu.{cpuSize};
 ghost use Rattle.model.specs.Forms.{Form, formOf, handleAddress};
+ghost use Rattle.model.specs.History.{loadIn};
 ghost use Rattle.model.specs.Instructions as instructions;
 ghost use Rattle.model.specs.Refusals.{randomLength};
 ghost use Rattle.model.specs.Execution as execution;
 ghost use Rattle.model.specs.Records.{processorLimit, zeroKey, zeroProcessor, noProcessor, withKey, withProcessors};
 ghost use Prim.Native.Nat.{ℕ, _+_, _%_, _≤_};
 ghost use lib.ListN.{length, getD, set, replicate};
-ghost use Rattle.machine.specs.Meaning.{outcomeOf, steppedOf};
+ghost use Rattle.model.specs.Validity.{valid};
+ghost use Rattle.machine.specs.Meaning.{outcomeOf, isLoad, left, leftOf};
 ghost use Rattle.machine.specs.declared.Answer.the-variants.{Done, Refused};
-use instructions::advance;
 use instructions::execute;
-use instructions::record_of;
 use isa::Decoded;
-use loadiwkey::Executed;
+use isa::Instruction;
 use loadiwkey::Random;
 use model::IwKey;
 use model::Machine;
@@ -50,11 +51,10 @@ pub struct Outcome {
     pub value: u64,
 }
 
-// A step gives the CPU record instead of a value.
+// The machine after a step, and the answer. The CPU record is lent.
 pub struct Stepped {
     pub machine: Machine,
     pub answer: Answer,
-    pub cpu: [u8; 408],
 }
 
 fn zero_key() -> IwKey
@@ -248,42 +248,66 @@ fn random_of(random: &[u8]) -> Random
     Random { ready: true, bytes }
 }
 
-// What the string's instruction does; a string that holds none does nothing.
-fn executed(d: Decoded, memory: &[u8], random: Random, k: IwKey, cpu: [u8; 408]) -> Executed
-    requires { ⌜ ((what : Instruction) (lock : Bool) (bytes : ℕ) → d ≡ decoded.Found what lock bytes → (f : Form) → formOf what ≡ some f → handleAddress cpu bytes (f .handle) .linear + handleLength (f .size) ≤ length (now memory)) ⌝ }
-    ensures { λ r. ⌜ executedOf r ≡ instructions.stepped (record { processor = 0; cpu = cpu; memory = now (memory .entry); random = randomData random; string = [] }) k d ⌝ }
+// What the string's instruction does, with its handle at `at`, and the IWKey after it; a string that holds none does nothing.
+fn executed(d: Decoded, at: u64, memory: &[u8], random: Random, k: IwKey, cpu: &mut [u8]) -> IwKey
+    requires { ⌜ length (now cpu) ≡ cpuSize ⌝ }
+    requires { ⌜ ((what : Instruction) (lock : Bool) (bytes : ℕ) → d ≡ decoded.Found what lock bytes → (f : Form) → formOf what ≡ some f → (at ≡ handleAddress (now cpu) bytes (f .handle) .linear) × (at + handleLength (f .size) ≤ length (now memory))) ⌝ }
+    ensures { λ r. ⌜ loading.executed r (now (cpu .exit)) ≡ instructions.stepped (record { processor = 0; cpu = now (cpu .entry); memory = now (memory .entry); random = randomData random; string = [] }) k d ⌝ }
 {
     match d {
         Decoded::Found { what, lock, next } => {
-            let x = execute(what, next as u64, memory, random, k, cpu);
-            let key = x.key;
-            let c = x.cpu;
-            Executed {
-                key,
-                cpu: advance(c, next as u64),
-            }
+            execute(what, next as u64, at, memory, random, k, cpu)
         }
-        Decoded::BadByte => Executed { key: k, cpu },
-        Decoded::EndOfString => Executed { key: k, cpu },
+        Decoded::BadByte => k,
+        Decoded::EndOfString => k,
+    }
+}
+
+fn is_load(what: Instruction) -> bool
+    ensures { λ r. ⌜ ((lock : Bool) (bytes : ℕ) → r ≡ isLoad (loadIn (decoded.Found what lock bytes))) ⌝ }
+{
+    match what {
+        Instruction::Use(_) => false,
+        Instruction::WideUse(_) => false,
+        Instruction::LoadIwKey(_) => true,
+        Instruction::EncodeKey(_) => false,
+    }
+}
+
+// Whether the string's instruction can change the IWKey.
+fn loads(d: Decoded) -> bool
+    ensures { λ r. ⌜ r ≡ isLoad (loadIn d) ⌝ }
+{
+    match d {
+        Decoded::Found { what, lock, next } => is_load(what),
+        Decoded::BadByte => false,
+        Decoded::EndOfString => false,
     }
 }
 
 fn refused_step(m: Machine, n: u8) -> Stepped
-    ensures { λ r. ⌜ r ≡ record { machine = m; answer = Refused n; cpu = replicate cpuSize 0 } ⌝ }
+    ensures { λ r. ⌜ r ≡ record { machine = m; answer = Refused n } ⌝ }
 {
     Stepped {
         machine: m,
         answer: Answer::Refused(n),
-        cpu: [0u8; 408],
     }
 }
 
-// The IWKey goes back to its processor.
-fn done_step(m: Machine, p: u8, e: Processor, x: Executed) -> Stepped
-    ensures { λ r. ⌜ r ≡ record { machine = withProcessors (set (m .processors) (p % 16) (withKey (x .key) e)) m; answer = Done; cpu = x .cpu } ⌝ }
+// The machine is as it was.
+fn kept_step(m: Machine) -> Stepped
+    ensures { λ r. ⌜ r ≡ record { machine = m; answer = Done } ⌝ }
 {
-    let key = x.key;
-    let cpu = x.cpu;
+    Stepped {
+        machine: m,
+        answer: Answer::Done,
+    }
+}
+
+// The IWKey goes to its processor.
+fn loaded_step(m: Machine, p: u8, e: Processor, key: IwKey) -> Stepped
+    ensures { λ r. ⌜ r ≡ record { machine = withProcessors (set (m .processors) (p % 16) (withKey key e)) m; answer = Done } ⌝ }
+{
     let entry = Processor {
         key,
         copy_status: e.copy_status,
@@ -291,25 +315,23 @@ fn done_step(m: Machine, p: u8, e: Processor, x: Executed) -> Stepped
     Stepped {
         machine: with_processor(m, p, entry),
         answer: Answer::Done,
-        cpu,
     }
 }
 
-pub fn step(
+// A step of a valid machine. Where no IWKey is loaded the machine goes back as it is, which saves its copy.
+fn valid_step(
     m: Machine,
     processor: u8,
-    cpu: &[u8],
+    cpu: &mut [u8],
     memory: &[u8],
     random: &[u8],
     string: &[u8],
 ) -> Stepped
-    ensures { λ r. ⌜ r ≡ steppedOf (execution.call m (step (record { processor = processor; cpu = now (cpu .entry); memory = now (memory .entry); random = now (random .entry); string = now (string .entry) }))) ⌝ }
+    requires { ⌜ valid m ≡ true ⌝ }
+    ensures { λ r. ⌜ left (r .answer) (r .machine) (now (cpu .exit)) ≡ leftOf (execution.call m (step (record { processor = processor; cpu = now (cpu .entry); memory = now (memory .entry); random = now (random .entry); string = now (string .entry) }))) ⌝ }
 {
-    if !valid(m) {
-        return refused_step(m, 1);
-    }
     let d = decode(string);
-    let number = step_refusal(
+    let tested = step_refusal(
         m.count,
         m.features,
         processor,
@@ -318,11 +340,32 @@ pub fn step(
         random.len(),
         d,
     );
+    let number = tested.number;
     if number != 0 {
         return refused_step(m, number);
     }
     let e = processor_at(m, processor);
-    let key = e.key;
-    let x = executed(d, memory, random_of(random), key, record_of(cpu));
-    done_step(m, processor, e, x)
+    let key = executed(d, tested.linear, memory, random_of(random), e.key, cpu);
+    if loads(d) {
+        return loaded_step(m, processor, e, key);
+    }
+    kept_step(m)
+}
+
+// The tests of `valid` read the machine byte by byte: with the rest in a function of its own the compiler copies it in one piece.
+pub fn step(
+    m: Machine,
+    processor: u8,
+    cpu: &mut [u8],
+    memory: &[u8],
+    random: &[u8],
+    string: &[u8],
+) -> Stepped
+    ensures { λ r. ⌜ left (r .answer) (r .machine) (now (cpu .exit)) ≡ leftOf (execution.call m (step (record { processor = processor; cpu = now (cpu .entry); memory = now (memory .entry); random = now (random .entry); string = now (string .entry) }))) ⌝ }
+{
+    if valid(m) {
+        valid_step(m, processor, cpu, memory, random, string)
+    } else {
+        refused_step(m, 1)
+    }
 }

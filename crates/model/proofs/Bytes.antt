@@ -51,10 +51,10 @@ machine-shaped t h =
 key-length : (k : IwKey) → ShapedKey k → length (keyBytes k) ≡ iwKeySize
 key-length k h = simp length-append (omega arith)
 
-entry-length : (e : Processor) → ShapedKey (e .key) → length (entryBytes e) ≡ entrySize
+pub entry-length : (e : Processor) → ShapedKey (e .key) → length (entryBytes e) ≡ entrySize
 entry-length e h = length-append (keyBytes (e .key)) (e .«copy_status» ∷ []) ∙ omega (arith, key-length (e .key) h)
 
-entries-length : (l : List Processor) → ShapedEntries l → length (entriesBytes l) ≡ length l * entrySize
+pub entries-length : (l : List Processor) → ShapedEntries l → length (entriesBytes l) ≡ length l * entrySize
 unfolding entriesBytes
 entries-length [] h = refl
 entries-length (e ∷ l) h = length-append (entryBytes e) (entriesBytes l) ∙ omega (arith, entry-length e (h .0), entries-length l (h .1))

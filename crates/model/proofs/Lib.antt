@@ -13,6 +13,7 @@ pub mod Registers
 pub mod Operator
 pub mod Bytes
 pub mod Shapes
+pub mod InPlace
 pub mod Lent
 pub mod Examples
 pub mod Computed

@@ -1,4 +1,3 @@
 pub mod Parts
-pub mod Addresses
 pub mod Ways
 pub mod Calls

@@ -5,7 +5,7 @@ use mathlib.Core.Bool.{Bool, true, false, cond, not, _&&_, _||_}
 use mathlib.Core.List.{List}
 use Prim.Native.Nat.{ℕ, _≤_, _<_}
 use lib.Dec.{ltb}
-use borrow.Author.Tests.{lt-ltb, le-ltb}
+use borrow.Author.Tests.{lt-ltb, le-ltb, ne-eqb}
 use Rattle.bits.proofs.Choice.{cond-on, cond-off}
 use Rattle.fips197.specs.declared.KeySize.{KeySize}
 use Rattle.isa.specs.Ranges.{handleLength, someNotCanonical, someOutside}
@@ -15,6 +15,7 @@ use Rattle.isa.specs.declared.Segment.{Segment}
 use Rattle.isa.specs.declared.Segment.the-variants.{Data, Stack}
 use Rattle.model.specs.Cpu.{cpl, control, zeroFieldSet}
 use Rattle.model.specs.Refusals.{first, memoryLimit, randomLength, needsFirmware, needsWide, invalidOpcode, noMath, inSegment}
+use Rattle.refusals.specs.Parts.{tested}
 use Rattle.refusals.proofs.Parts.{handleTests, operandTests, instructionTests, recordTests}
 
 -- a test that holds, and one that does not
@@ -24,11 +25,19 @@ met t n r e = sym (cond-on e n r)
 pub passed : (t : Bool) (n r m : ℕ) → t ≡ false → m ≡ r → m ≡ cond t n r
 passed t n r m e p = p ∙ sym (cond-off e n r)
 
+-- a refusal tells no address
+pub stopped : (n l : ℕ) → (n ≡ 0 → ⊥) → record { number = n; linear = 0 } ≡ tested n l
+stopped n l h = λ j. record { number = n; linear = sym (cond-off (ne-eqb n 0 h) l 0) j }
+
 -- ---- 12 to 14 for a handle
 
 -- 12 and 13 are one test, and a number for each segment
 abbrev numberIn : Segment → ℕ
 numberIn g = cond (inSegment true g) 13 12
+
+pub stopped-in : (g : Segment) (l : ℕ) → record { number = numberIn g; linear = 0 } ≡ tested (numberIn g) l
+stopped-in Data l = refl
+stopped-in Stack l = refl
 
 by-segment : (g : Segment) (b : Bool) (r : ℕ) → cond (inSegment false g && b) 12 (cond (inSegment true g && b) 13 r) ≡ cond b (numberIn g) r
 by-segment Data true r = refl

@@ -8,10 +8,10 @@ ghost use Rattle.isa.specs.declared.Decoded as decoded;
 ghost use Rattle.isa.specs.declared.Decoded.the-variants.{Found};
 ghost use Rattle.model.specs.Numbers as numbers;
 ghost use Rattle.model.specs.Cpu.{cpuSize};
-ghost use Rattle.model.specs.Forms.{handleAddress};
+ghost use Rattle.model.specs.Forms.{handleAddress, formOf};
 ghost use Rattle.model.specs.Calls.{read, write};
 ghost use Rattle.model.specs.Refusals.{View, stepRefusal, refusal, needsFirmware, needsWide, invalidOpcode, noMath, loadFault, encodeFault, inSegment, canonicalFault, outside, noRegisters};
-ghost use Rattle.refusals.specs.Parts.{within};
+ghost use Rattle.refusals.specs.Parts.{within, tested, loadedFrom, handleLinear};
 use address::effective_address;
 use address::some_not_canonical;
 use address::some_outside;
@@ -19,8 +19,6 @@ use cpu::control;
 use cpu::cpl;
 use cpu::register;
 use cpu::register_of;
-use cpu::registers;
-use cpu::rip;
 use cpu::zero_field_set;
 use fips197::KeySize;
 use isa::Address;
@@ -56,6 +54,12 @@ const CPU_SIZE: usize = 408;
 const MEMORY_LIMIT: usize = 1048576;
 
 const RANDOM_SIZE: usize = 48;
+
+// What testing a step gives: the number of its refusal, or 0 and where it loads its handle from (0 if it loads none).
+pub struct Tested {
+    pub number: u8,
+    pub linear: u64,
+}
 
 fn bit(i: u8, x: u8) -> bool
     requires { ⌜ i < 8 ⌝ }
@@ -131,7 +135,7 @@ fn encode_fault(source: u64) -> bool
 }
 
 // Where a handle is loaded from, for an instruction of so many bytes.
-pub fn handle_address(cpu: &[u8], bytes: u64, o: Operand) -> Address
+fn handle_address(cpu: &[u8], bytes: u64, o: Operand) -> Address
     requires { ⌜ length (now cpu) ≡ cpuSize ⌝ }
     ensures { λ r. ⌜ r ≡ handleAddress (now (cpu .entry)) bytes o ⌝ }
 {
@@ -140,10 +144,7 @@ pub fn handle_address(cpu: &[u8], bytes: u64, o: Operand) -> Address
             linear: 0,
             segment: Segment::Data,
         },
-        Operand::Memory(place) => {
-            let r = registers(cpu);
-            effective_address(&r, rip(cpu), bytes, place)
-        }
+        Operand::Memory(place) => effective_address(cpu, bytes, place),
     }
 }
 
@@ -157,34 +158,44 @@ fn not_canonical(segment: Segment) -> u8
     }
 }
 
-// 12 to 14 for a handle at an address.
-fn handle_refusal(memory: usize, a: Address, size: KeySize) -> u8
-    ensures { λ r. ⌜ r ≡ cond (canonicalFault false a size) 12 (cond (canonicalFault true a size) 13 (cond (outside memory a size) 14 0)) ⌝ }
+fn refused(number: u8) -> Tested
+    ensures { λ r. ⌜ r ≡ record { number = number; linear = 0 } ⌝ }
 {
-    let segment = a.segment;
-    if some_not_canonical(a.linear, size) {
-        return not_canonical(segment);
-    }
-    if some_outside(memory as u64, a.linear, size) {
-        return 14;
-    }
-    0
+    Tested { number, linear: 0 }
 }
 
-// 12 where it holds.
-fn fault(holds: bool) -> u8
-    ensures { λ r. ⌜ r ≡ cond holds 12 0 ⌝ }
+// 12 to 14 for a handle at an address.
+fn handle_refusal(memory: usize, a: Address, size: KeySize) -> Tested
+    ensures { λ r. ⌜ r ≡ tested (cond (canonicalFault false a size) 12 (cond (canonicalFault true a size) 13 (cond (outside memory a size) 14 0))) (a .linear) ⌝ }
+{
+    let segment = a.segment;
+    let linear = a.linear;
+    if some_not_canonical(linear, size) {
+        return refused(not_canonical(segment));
+    }
+    if some_outside(memory as u64, linear, size) {
+        return refused(14);
+    }
+    Tested { number: 0, linear }
+}
+
+// 12 where it holds; no handle is loaded.
+fn fault(holds: bool) -> Tested
+    ensures { λ r. ⌜ r ≡ tested (cond holds 12 0) 0 ⌝ }
 {
     if holds {
-        return 12;
+        return refused(12);
     }
-    0
+    Tested {
+        number: 0,
+        linear: 0,
+    }
 }
 
 // 12 to 14 for an instruction.
-fn operand_refusal(features: u8, cpu: &[u8], memory: usize, what: Instruction, bytes: u64) -> u8
+fn operand_refusal(features: u8, cpu: &[u8], memory: usize, what: Instruction, bytes: u64) -> Tested
     requires { ⌜ length (now cpu) ≡ cpuSize ⌝ }
-    ensures { λ r. ⌜ ((count processor random : ℕ) (lock : Bool) → r ≡ within 12 14 (record { count = count; features = features }) (record { processor = processor; cpu = now (cpu .entry); memory = memory; random = random; decoded = Found what lock bytes })) ⌝ }
+    ensures { λ r. ⌜ ((count processor random : ℕ) (lock : Bool) → r ≡ tested (within 12 14 (record { count = count; features = features }) (record { processor = processor; cpu = now (cpu .entry); memory = memory; random = random; decoded = Found what lock bytes })) (loadedFrom (now (cpu .entry)) bytes (formOf what))) ⌝ }
 {
     match what {
         Instruction::Use(u) => {
@@ -213,16 +224,16 @@ fn instruction_refusal(
     what: Instruction,
     lock: bool,
     bytes: u64,
-) -> u8
+) -> Tested
     requires { ⌜ length (now cpu) ≡ cpuSize ⌝ }
-    ensures { λ r. ⌜ ((count processor random : ℕ) → r ≡ within 10 14 (record { count = count; features = features }) (record { processor = processor; cpu = now (cpu .entry); memory = memory; random = random; decoded = Found what lock bytes })) ⌝ }
+    ensures { λ r. ⌜ ((count processor random : ℕ) → r ≡ tested (within 10 14 (record { count = count; features = features }) (record { processor = processor; cpu = now (cpu .entry); memory = memory; random = random; decoded = Found what lock bytes })) (loadedFrom (now (cpu .entry)) bytes (formOf what))) ⌝ }
 {
     let c = control(cpu);
     if invalid_opcode(features, c, lock, needs_firmware(what), needs_wide(what)) {
-        return 10;
+        return refused(10);
     }
     if no_math(c) {
-        return 11;
+        return refused(11);
     }
     operand_refusal(features, cpu, memory, what, bytes)
 }
@@ -246,7 +257,7 @@ fn record_refusal(cpu: &[u8], memory: usize, random: usize) -> u8
     0
 }
 
-// 3 to 14 for what a string holds: guest memory and random data are told by their lengths.
+// 3 to 14 for what a string holds, and where a use loads its handle from: guest memory and random data are told by their lengths.
 pub fn step_refusal(
     count: u8,
     features: u8,
@@ -255,22 +266,22 @@ pub fn step_refusal(
     memory: usize,
     random: usize,
     d: Decoded,
-) -> u8
-    ensures { λ r. ⌜ r ≡ stepRefusal (record { count = count; features = features }) (record { processor = processor; cpu = now (cpu .entry); memory = memory; random = random; decoded = d }) ⌝ }
+) -> Tested
+    ensures { λ r. ⌜ r ≡ tested (stepRefusal (record { count = count; features = features }) (record { processor = processor; cpu = now (cpu .entry); memory = memory; random = random; decoded = d })) (handleLinear (now (cpu .entry)) d) ⌝ }
 {
     if count <= processor {
-        return 3;
+        return refused(3);
     }
     if cpu.len() != CPU_SIZE {
-        return 4;
+        return refused(4);
     }
     let record = record_refusal(cpu, memory, random);
     if record != 0 {
-        return record;
+        return refused(record);
     }
     match d {
-        Decoded::BadByte => 8,
-        Decoded::EndOfString => 9,
+        Decoded::BadByte => refused(8),
+        Decoded::EndOfString => refused(9),
         Decoded::Found { what, lock, next } => {
             instruction_refusal(features, cpu, memory, what, lock, next as u64)
         }

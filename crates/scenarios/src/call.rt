@@ -92,19 +92,19 @@ fn print_cpu(old: &[u8], new: &[u8]) {
     print_changes(b" cpu", old, new);
 }
 
-fn step(m: Machine, a: &[u8]) -> Machine
-    requires { ⌜ length (now a) ≡ 960 ⌝ }
+// The CPU record is lent from a copy of the call's bytes, and then compared with them.
+fn step(m: Machine, a: &[u8], b: &mut [u8]) -> Machine
+    requires { ⌜ (length (now a) ≡ 960) × (length (now b) ≡ 960) ⌝ }
 {
     let c = 24 + length_at(a, 16, 416);
     let d = 440 + length_at(a, 18, 256);
     let e = 696 + length_at(a, 20, 64);
     let f = 760 + length_at(a, 22, 64);
-    let x = machine::step(m, a[1], &a[24..c], &a[440..d], &a[696..e], &a[760..f]);
+    let x = machine::step(m, a[1], &mut b[24..c], &a[440..d], &a[696..e], &a[760..f]);
     let after = x.machine;
     let answer = x.answer;
-    let cpu = x.cpu;
     if print_answer(answer) {
-        print_cpu(&a[24..c], &cpu);
+        print_cpu(&a[24..c], &b[24..c]);
     }
     print_machine(m, after);
     after
@@ -118,7 +118,10 @@ fn call(m: Machine, text: &[u8]) -> Machine {
     print_kind(a[0]);
     match a[0] {
         0..=5 => other(m, a),
-        6 => step(m, &a),
+        6 => {
+            let mut b = a;
+            step(m, &a, &mut b)
+        }
         _ => {
             let after = read_machine(&a[24..948]);
             print_machine(m, after);

@@ -1,12 +1,15 @@
 -- Assumes nothing.
 use mathlib.Core.Path.{ap, ap₂, _∙_}
 use Prim.Native.Nat.{ℕ, _+_, _*_, _^_, _%_}
-use lib.ListN.{getD}
 use Rattle.isa.specs.Address.{effectiveAddress, nextRip, baseValue, indexValue}
 use Rattle.isa.proofs.Sums.{sum-mod}
+use Rattle.model.specs.Cpu.{register, rip}
 use borrow.Author.Needs.{needs}
 use Rattle.address.proofs.effective_address.Statement.{statement}
 use Rattle.address.proofs.effective_address.Tie as tie
+
+rip-requires : tie.Need-rip-requires
+rip-requires c κs = search needs
 
 wrapping-add-u64-requires : tie.Need-wrapping-add-u64-requires
 wrapping-add-u64-requires c κs = search needs
@@ -32,18 +35,18 @@ segment-of-requires c κs = search needs
 returns : tie.Need-returns
 unfolding effectiveAddress
 returns c =
-    let st = c .before .before .before .before .before .before .before in
-    let p = st .args .place in
-    let registers : ℕ → ℕ = λ n. getD (st .args .registers .now) n 0 in
-    let b = baseValue registers (nextRip (st .args .rip) (st .args .bytes)) (p .base) in
+    let a = c .before .before .before .before .before .before .before .before .before .args in
+    let p = a .place in
+    let registers : ℕ → ℕ = λ n. register n (a .cpu .now) in
+    let b = baseValue registers (nextRip (rip (a .cpu .now)) (a .bytes)) (p .base) in
     let i = indexValue registers (p .index) * 2 ^ (p .scale % 4) in
-    let base = c .before .before .before .base-value .ensures ∙ ap (λ (n : ℕ). baseValue registers n (p .base)) (c .before .before .before .before .before .before .wrapping-add-u64 .ensures) in
+    let next = c .before .before .before .before .before .before .wrapping-add-u64 .ensures ∙ ap (λ (x : ℕ). nextRip x (a .bytes)) (c .before .before .before .before .before .before .before .rip .ensures) in
+    let base = c .before .before .before .base-value .ensures ∙ ap (λ (n : ℕ). baseValue registers n (p .base)) next in
     let linear = c .before .wrapping-add-u643 .ensures
     ∙ ap (λ (x : ℕ). (x + p .displacement) % 2 ^ 64)
     (c .before .before .wrapping-add-u642 .ensures
     ∙ ap₂ (λ (x y : ℕ). (x + y) % 2 ^ 64) base
-    (c .before .before .before .before .scaled .ensures
-    ∙ ap (λ (x : ℕ). x * 2 ^ (p .scale % 4) % 2 ^ 64) (c .before .before .before .before .before .index-value .ensures)))
+    (c .before .before .before .before .scaled .ensures ∙ ap (λ (x : ℕ). x * 2 ^ (p .scale % 4) % 2 ^ 64) (c .before .before .before .before .before .index-value .ensures)))
     ∙ sum-mod (2 ^ 64) b i (p .displacement) in
     λ j. record { linear = linear j; segment = c .segment-of .ensures j }
 
@@ -51,6 +54,7 @@ pub effective-address-spec : {M : Type 1} → statement M
 effective-address-spec =
     tie.close
     (tie.spec
+    rip-requires
     wrapping-add-u64-requires
     index-value-requires
     scaled-requires

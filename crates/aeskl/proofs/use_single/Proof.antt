@@ -1,98 +1,53 @@
-use mathlib.Core.Path.{_≡_, _∙_, sym, ap}
-use mathlib.Core.List.{List, [], _∷_}
+use mathlib.Core.Path.{_∙_, ap, ap₂}
+use mathlib.Core.Bool.{cond}
+use mathlib.Core.List.{List}
+use mathlib.Core.Option.{Option}
 use Prim.Native.Nat.{ℕ}
-use lib.ListN.{length}
-use Rattle.aes.specs.Meaning.{keyBytes}
-use Rattle.keywrap.specs.Meaning.{opened}
-use Rattle.model.specs.Cpu.{withXmm, withZf}
-use Rattle.model.specs.Instructions.{aes}
-use Rattle.aeskl.proofs.Openings.{illegal-used, none-used, key-used}
+use Rattle.keywrap.specs.Meaning.{handleBytes}
+use Rattle.model.specs.Cpu.{cpl, withZf}
+use Rattle.model.specs.Instructions.{aes, openedFor}
+use Rattle.aeskl.specs.Meaning.{usedBlock, usedBy}
+use Rattle.aeskl.proofs.Registers.{single-left}
 use borrow.Author.Needs.{needs}
 use Rattle.aeskl.proofs.use_single.Statement.{statement}
 use Rattle.aeskl.proofs.use_single.Tie as tie
 
-illegal-at-requires : tie.Need-illegal-at-requires
-illegal-at-requires c κs = search needs
+cpl-requires : tie.Need-cpl-requires
+cpl-requires c κs = search needs
 
-failed-requires : tie.Need-failed-requires
-failed-requires c κs = search needs
+xmm-requires : tie.Need-xmm-requires
+xmm-requires c κs = search needs
+
+used-block-requires : tie.Need-used-block-requires
+used-block-requires c κs = search needs
+
+put-xmm-requires : tie.Need-put-xmm-requires
+put-xmm-requires c κs = search needs
+
+put-zf-requires : tie.Need-put-zf-requires
+put-zf-requires c κs = search needs
+
+same-length : tie.Need-same-length
+same-length c = search needs
 
 returns : tie.Need-returns
 returns c =
-    let a = c .before .before .before .before .args in
-    c .failed .ensures
-    ∙ illegal-used (a .k) _ (a .size) (a .direction) (a .h) (a .block ∷ []) (a .t6) (sym (c .before .before .illegal-at .ensures) ∙ c .before .if1 .taken)
-
-sized : (c : tie.Start) → length (c .args .t6) ≡ 408
-sized c = search needs
-
-sbox-table-requires : tie.Need-sbox-table-requires
-sbox-table-requires c κs = search needs
-
-mix-table-requires : tie.Need-mix-table-requires
-mix-table-requires c κs = search needs
-
-unwrapped-by-requires : tie.Need-unwrapped-by-requires
-unwrapped-by-requires c κs =
-    let rule = c .before .before .before .before .before .sbox-table .ensures in
-    (c .before .before .mix-table .ensures, rule)
-
-enum-known-key : tie.Need-enum-known-key
-enum-known-key c = search needs
-
-enum-told : tie.Need-enum-told
-enum-told c = search needs
-
-failed-requires-2 : tie.Need-failed-requires-2
-failed-requires-2 c κs = search needs
-
-returns-2 : tie.Need-returns-2
-returns-2 c =
-    let a = c .before .before .before .before .before .before .before .before .before .before .before .before .before .args in
-    c .failed2 .ensures
-    ∙ none-used (a .k) _ (a .size) (a .direction) (a .h) (a .block ∷ []) (a .t6) (sym (c .before .before .before .before .before .before .before .before .before .before .before .illegal-at .ensures) ∙ c .before .before .before .before .before .before .before .before .before .before .if1 .left)
-    (sym (ap opened (c .before .enum-told .given .1)) ∙ c .before .before .before .unwrapped-by .ensures)
-
-slice-aggregate-xmm : tie.Need-slice-aggregate-xmm
-slice-aggregate-xmm c = sym (sized (c .before .before .before .before .before .before .before .before .before .before .before .before .before .before .before .before))
-
-xmm-requires : tie.Need-xmm-requires
-xmm-requires c κs = sized (c .before .before .before .before .before .before .before .before .before .before .before .before .before .before .before .before)
-
-cipher-block-requires : tie.Need-cipher-block-requires
-cipher-block-requires c κs =
-    let rule = c .before .before .before .before .before .before .before .before .before .before .before .before .before .sbox-table .ensures in
-    (c .before .before .before .before .before .before .before .before .before .before .mix-table .ensures, rule)
-
-done-single-requires : tie.Need-done-single-requires
-done-single-requires c κs = search needs
-
-returns-3 : tie.Need-returns-3
-returns-3 c =
-    let a = c .before .before .before .before .before .before .before .before .before .before .before .before .before .before .before .before .before .before .before .args in
-    let key = c .before .before .before .before .before .before .before .key .given in
-    c .done-single .ensures
-    ∙ ap (λ (b : List ℕ). withZf 0 (withXmm (a .block) b (a .t6)))
-    (c .before .cipher-block .ensures ∙ ap (aes (a .direction) (a .size) (keyBytes (a .size) (key .0 .0))) (c .before .before .xmm .ensures))
-    ∙ key-used (a .k) _ (a .size) (a .direction) (a .h) (a .block ∷ []) (a .t6) (key .0 .0) (sym (c .before .before .before .before .before .before .before .before .before .before .before .before .before .before .before .before .before .illegal-at .ensures) ∙ c .before .before .before .before .before .before .before .before .before .before .before .before .before .before .before .before .if1 .left)
-    (sym (ap opened (key .1)) ∙ c .before .before .before .before .before .before .before .before .before .unwrapped-by .ensures)
+    let a = c .before .before .before .before .before .before .before .before .before .before .before .before .before .before .before .args in
+    let cpu = a .cpu .now in
+    let opened : ℕ → Option (List ℕ) = λ l. openedFor (a .k) l (a .size) (a .direction) (handleBytes (a .size) (a .h)) in
+    let u = usedBlock (c .before .before .before .before .before .before .before .before .before .used-block .result) in
+    c .before .before .put-zf .ensures ∙ ap (withZf (cond (u .zf) 1 0)) (c .before .before .before .before .before .before .put-xmm .ensures)
+    ∙ single-left (a .direction) (a .size) cpu (c .before .before .before .before .before .before .before .before .before .before .before .before .before .before .before .pre) (a .n) (opened (cpl cpu)) u
+    (c .before .before .before .before .before .before .before .before .before .used-block .ensures ∙ ap₂ (λ (l : ℕ) (b : List ℕ). usedBy (aes (a .direction) (a .size)) (opened l) b) (c .before .before .before .before .before .before .before .before .before .before .before .before .cpl .ensures) (c .before .before .before .before .before .before .before .before .before .before .xmm .ensures))
 
 pub use-single-spec : {M : Type 1} → statement M
 use-single-spec =
     tie.close
     (tie.spec
-    illegal-at-requires
-    failed-requires
-    returns
-    sbox-table-requires
-    mix-table-requires
-    unwrapped-by-requires
-    enum-known-key
-    enum-told
-    failed-requires-2
-    returns-2
-    slice-aggregate-xmm
+    cpl-requires
     xmm-requires
-    cipher-block-requires
-    done-single-requires
-    returns-3)
+    used-block-requires
+    put-xmm-requires
+    put-zf-requires
+    same-length
+    returns)

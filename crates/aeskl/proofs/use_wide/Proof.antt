@@ -1,76 +1,81 @@
-use mathlib.Core.Path.{_∙_, sym, ap}
-use mathlib.Core.List.{[], _∷_}
-use Rattle.keywrap.specs.Meaning.{opened}
-use Rattle.aeskl.proofs.Openings.{illegal-used, none-used, key-used}
+use mathlib.Core.Path.{_∙_, ap, ap₂}
+use mathlib.Core.Bool.{cond}
+use mathlib.Core.List.{List, _++_}
+use mathlib.Core.Option.{Option}
+use Prim.Native.Nat.{ℕ}
+use lib.ListN.{drop}
+use Rattle.bits.specs.Blocks.{mapBlocks}
+use Rattle.keywrap.specs.Meaning.{handleBytes}
+use Rattle.model.specs.Cpu.{cpl, withZf}
+use Rattle.model.specs.Instructions.{aes, openedFor}
+use Rattle.aeskl.specs.Meaning.{usedBlocks, usedBy}
+use Rattle.aeskl.proofs.Registers.{wide-left}
 use borrow.Author.Needs.{needs}
 use Rattle.aeskl.proofs.use_wide.Statement.{statement}
 use Rattle.aeskl.proofs.use_wide.Tie as tie
 
-illegal-at-requires : tie.Need-illegal-at-requires
-illegal-at-requires c κs = search needs
+sub-eight-blocks : tie.Need-sub-eight-blocks
+sub-eight-blocks c = search needs
 
-failed-requires : tie.Need-failed-requires
-failed-requires c κs = search needs
+part-eight-blocks-start : tie.Need-part-eight-blocks-start
+part-eight-blocks-start c = search needs
+
+part-eight-blocks-end : tie.Need-part-eight-blocks-end
+part-eight-blocks-end c = search needs
+
+eight-blocks-requires : tie.Need-eight-blocks-requires
+eight-blocks-requires c κs = search needs
+
+cpl-requires : tie.Need-cpl-requires
+cpl-requires c κs = search needs
+
+used-blocks-requires : tie.Need-used-blocks-requires
+used-blocks-requires c κs = search needs
+
+sub-put-eight-blocks : tie.Need-sub-put-eight-blocks
+sub-put-eight-blocks c = search needs
+
+part-put-eight-blocks-start : tie.Need-part-put-eight-blocks-start
+part-put-eight-blocks-start c = search needs
+
+part-put-eight-blocks-end : tie.Need-part-put-eight-blocks-end
+part-put-eight-blocks-end c = search needs
+
+put-eight-blocks-requires : tie.Need-put-eight-blocks-requires
+put-eight-blocks-requires c κs = search needs
+
+put-zf-requires : tie.Need-put-zf-requires
+put-zf-requires c κs = search needs
+
+same-length : tie.Need-same-length
+same-length c = search needs
 
 returns : tie.Need-returns
 returns c =
-    let a = c .before .before .before .before .args in
-    c .failed .ensures
-    ∙ illegal-used (a .k) _ (a .size) (a .direction) (a .h) (0 ∷ 1 ∷ 2 ∷ 3 ∷ 4 ∷ 5 ∷ 6 ∷ 7 ∷ []) (a .t5) (sym (c .before .before .illegal-at .ensures) ∙ c .before .if1 .taken)
-
-sbox-table-requires : tie.Need-sbox-table-requires
-sbox-table-requires c κs = search needs
-
-mix-table-requires : tie.Need-mix-table-requires
-mix-table-requires c κs = search needs
-
-unwrapped-by-requires : tie.Need-unwrapped-by-requires
-unwrapped-by-requires c κs =
-    let rule = c .before .before .before .before .before .sbox-table .ensures in
-    (c .before .before .mix-table .ensures, rule)
-
-enum-known-key : tie.Need-enum-known-key
-enum-known-key c = search needs
-
-enum-told : tie.Need-enum-told
-enum-told c = search needs
-
-failed-requires-2 : tie.Need-failed-requires-2
-failed-requires-2 c κs = search needs
-
-returns-2 : tie.Need-returns-2
-returns-2 c =
-    let a = c .before .before .before .before .before .before .before .before .before .before .before .before .before .args in
-    c .failed2 .ensures
-    ∙ none-used (a .k) _ (a .size) (a .direction) (a .h) (0 ∷ 1 ∷ 2 ∷ 3 ∷ 4 ∷ 5 ∷ 6 ∷ 7 ∷ []) (a .t5) (sym (c .before .before .before .before .before .before .before .before .before .before .before .illegal-at .ensures) ∙ c .before .before .before .before .before .before .before .before .before .before .if1 .left)
-    (sym (ap opened (c .before .enum-told .given .1)) ∙ c .before .before .before .unwrapped-by .ensures)
-
-done-wide-requires : tie.Need-done-wide-requires
-done-wide-requires c κs =
-    let rule = c .before .before .before .before .before .before .before .before .before .before .before .sbox-table .ensures in
-    (c .before .before .before .before .before .before .before .before .mix-table .ensures, rule)
-
-returns-3 : tie.Need-returns-3
-returns-3 c =
     let a = c .before .before .before .before .before .before .before .before .before .before .before .before .before .before .before .before .args in
-    let key = c .before .before .before .before .key .given in
-    c .done-wide .ensures
-    ∙ key-used (a .k) _ (a .size) (a .direction) (a .h) (0 ∷ 1 ∷ 2 ∷ 3 ∷ 4 ∷ 5 ∷ 6 ∷ 7 ∷ []) (a .t5) (key .0 .0) (sym (c .before .before .before .before .before .before .before .before .before .before .before .before .before .before .illegal-at .ensures) ∙ c .before .before .before .before .before .before .before .before .before .before .before .before .before .if1 .left)
-    (sym (ap opened (key .1)) ∙ c .before .before .before .before .before .before .unwrapped-by .ensures)
+    let cpu = a .cpu .now in
+    let opened : ℕ → Option (List ℕ) = λ l. openedFor (a .k) l (a .size) (a .direction) (handleBytes (a .size) (a .h)) in
+    let u = usedBlocks (c .before .before .before .before .before .before .before .before .before .used-blocks .result) in
+    c .before .before .put-zf .ensures
+    ∙ ap (λ (b : List ℕ). withZf (cond (u .zf) 1 0) (b ++ drop 128 cpu)) (c .before .before .before .before .before .before .put-eight-blocks .ensures)
+    ∙ wide-left (a .direction) (a .size) cpu (c .before .before .before .before .before .before .before .before .before .before .before .before .before .before .before .before .pre) (opened (cpl cpu)) u
+    (c .before .before .before .before .before .before .before .before .before .used-blocks .ensures
+    ∙ ap₂ (λ (l : ℕ) (b : List ℕ). usedBy (λ key. mapBlocks (aes (a .direction) (a .size) key) 8) (opened l) b) (c .before .before .before .before .before .before .before .before .before .before .cpl .ensures) (c .before .before .before .before .before .before .before .before .before .before .before .before .eight-blocks .ensures))
 
 pub use-wide-spec : {M : Type 1} → statement M
 use-wide-spec =
     tie.close
     (tie.spec
-    illegal-at-requires
-    failed-requires
-    returns
-    sbox-table-requires
-    mix-table-requires
-    unwrapped-by-requires
-    enum-known-key
-    enum-told
-    failed-requires-2
-    returns-2
-    done-wide-requires
-    returns-3)
+    sub-eight-blocks
+    part-eight-blocks-start
+    part-eight-blocks-end
+    eight-blocks-requires
+    cpl-requires
+    used-blocks-requires
+    sub-put-eight-blocks
+    part-put-eight-blocks-start
+    part-put-eight-blocks-end
+    put-eight-blocks-requires
+    put-zf-requires
+    same-length
+    returns)

@@ -1,44 +1,34 @@
-use mathlib.Core.Path.{_∙_, sym, ap, subst}
+use mathlib.Core.Path.{_∙_, ap}
 use mathlib.Core.List.{List, [], _∷_}
-use Prim.Native.Nat.{ℕ, _+_, _≤_}
-use lib.ListN.{length}
-use Rattle.isa.specs.Ranges.{handleLength}
-use Rattle.isa.specs.declared.Address.{Address}
-use Rattle.model.specs.Numbers.{part}
+use Prim.Native.Nat.{ℕ}
 use Rattle.model.specs.Cpu.{cpl}
-use Rattle.model.specs.Instructions.{ciphered, openedFor, used}
+use Rattle.model.specs.Instructions.{ciphered, openedFor}
 use borrow.Author.Needs.{needs}
 use Rattle.instructions.proofs.single.Statement.{statement}
 use Rattle.instructions.proofs.single.Tie as tie
 
-slice-aggregate-handle-address : tie.Need-slice-aggregate-handle-address
-slice-aggregate-handle-address c = search needs
-
-handle-address-requires : tie.Need-handle-address-requires
-handle-address-requires c κs = search needs
-
 handle-at-requires : tie.Need-handle-at-requires
-handle-at-requires c κs =
-    let a = c .before .before .before .args in
-    subst (λ (x : Address). x .linear + handleLength (a .u .size) ≤ length (a .memory .now)) (sym (c .handle-address .ensures)) (c .before .before .before .pre)
+handle-at-requires c κs = search needs
 
 use-single-requires : tie.Need-use-single-requires
 use-single-requires c κs = search needs
 
+same-length : tie.Need-same-length
+same-length c = search needs
+
 returns : tie.Need-returns
-unfolding used
 returns c =
-    let a = c .before .before .before .before .before .args in
-    c .use-single .ensures
-    ∙ ap (λ (h : List ℕ). ciphered (a .u .direction) (a .u .size) (a .u .block ∷ []) (openedFor (a .k) (cpl (a .t5)) (a .u .size) (a .u .direction) h) (a .t5))
-    (c .before .handle-at .ensures ∙ ap (λ (x : Address). part (handleLength (a .u .size)) (x .linear) (a .memory .now)) (c .before .before .handle-address .ensures))
+    let a = c .before .before .before .before .before .before .before .args in
+    let cpu = a .cpu .now in
+    c .before .before .use-single .ensures
+    ∙ ap (λ (h : List ℕ). ciphered (a .u .direction) (a .u .size) (a .u .block ∷ []) (openedFor (a .k) (cpl cpu) (a .u .size) (a .u .direction) h) cpu)
+    (c .before .before .before .before .handle-at .ensures)
 
 pub single-spec : {M : Type 1} → statement M
 single-spec =
     tie.close
     (tie.spec
-    slice-aggregate-handle-address
-    handle-address-requires
     handle-at-requires
     use-single-requires
+    same-length
     returns)

@@ -1,5 +1,7 @@
+use mathlib.Core.Path.{sym, ap}
 use Rattle.model.specs.Calls.{StepCall}
-use Rattle.keylocker.proofs.Finishing.{step-short, step-called}
+use Rattle.keylocker.specs.Meaning.{answered}
+use Rattle.keylocker.proofs.Finishing.{step-short, step-called, step-block}
 use borrow.Author.Needs.{needs}
 use Rattle.keylocker.proofs.keylocker_step.Statement.{statement}
 use Rattle.keylocker.proofs.keylocker_step.Tie as tie
@@ -16,8 +18,17 @@ read-machine-requires c κs = search needs
 step-through-requires : tie.Need-step-through-requires
 step-through-requires c κs = search needs
 
-finish-requires : tie.Need-finish-requires
-finish-requires c κs = search needs
+enum-known-answer : tie.Need-enum-known-answer
+enum-known-answer c = search needs
+
+cast-result : tie.Need-cast-result
+cast-result c = search needs
+
+enum-told : tie.Need-enum-told
+enum-told c = search needs
+
+write-entry-requires : tie.Need-write-entry-requires
+write-entry-requires c κs = search needs
 
 same-length : tie.Need-same-length
 same-length c = search needs
@@ -27,12 +38,27 @@ same-length-2 c = search needs
 
 returns-2 : tie.Need-returns-2
 returns-2 c =
-    let a = c .before .before .before .before .before .before .before .before .before .before .before .before .before .before .before .before .before .args in
+    let a = c .before .before .before .before .before .before .before .before .before .before .before .before .before .before .before .before .args in
     let s : StepCall = record { processor = a .processor; cpu = a .cpu .now; memory = a .memory .now; random = a .random .now; string = a .string .now } in
-    let t = c .before .before .before .before .before .before .before .step-through .result in
-    step-called (a .machine .now) s _ _ _ _ (t .machine) (t .answer) (search needs)
-    (c .before .before .before .before .before .before .before .before .before .read-machine .ensures)
-    (c .before .before .before .before .before .before .before .step-through .ensures) (c .before .before .finish .ensures)
+    let t = c .before .before .before .before .before .before .step-through .result in
+    step-called (a .machine .now) s _ _ _ _ (t .machine) (t .answer) (c .before .before .before .before .before .before .before .before .before .before .if1 .left) (c .before .before .before .before .before .before .before .before .read-machine .ensures) (c .before .before .before .before .before .before .step-through .ensures)
+    (ap (answered (a .machine .now) (t .machine)) (sym (c .before .answer .given .1)))
+
+same-length-3 : tie.Need-same-length-3
+same-length-3 c = search needs
+
+same-length-4 : tie.Need-same-length-4
+same-length-4 c = search needs
+
+returns-3 : tie.Need-returns-3
+returns-3 c =
+    let a = c .before .before .before .before .before .before .before .before .before .before .before .before .before .before .before .before .before .before .before .args in
+    let s : StepCall = record { processor = a .processor; cpu = a .cpu .now; memory = a .memory .now; random = a .random .now; string = a .string .now } in
+    let t = c .before .before .before .before .before .before .before .before .before .step-through .result in
+    let size = c .before .before .before .before .before .before .before .before .before .before .before .before .before .if1 .left in
+    step-called (a .machine .now) s _ _ _ _ (t .machine) (t .answer) size (c .before .before .before .before .before .before .before .before .before .before .before .read-machine .ensures) (c .before .before .before .before .before .before .before .before .before .step-through .ensures)
+    (step-block (a .machine .now) s _ _ (t .machine) (t .answer) size (c .before .before .before .before .before .before .before .before .before .before .before .read-machine .ensures) (c .before .before .before .before .before .before .before .before .before .step-through .ensures) (c .before .before .before .before .enum-told .given .1) _
+    (c .before .before .write-entry .ensures))
 
 pub keylocker-step-spec : {M : Type 1} → statement M
 keylocker-step-spec =
@@ -41,7 +67,13 @@ keylocker-step-spec =
     returns
     read-machine-requires
     step-through-requires
-    finish-requires
+    enum-known-answer
+    cast-result
+    enum-told
+    write-entry-requires
     same-length
     same-length-2
-    returns-2)
+    returns-2
+    same-length-3
+    same-length-4
+    returns-3)

@@ -54,11 +54,11 @@ use Rattle.model.proofs.Machine.Laws as T′
 use Rattle.machine.specs.declared.Answer.{Answer}
 use Rattle.machine.proofs.Answer as E
 use Rattle.machine.proofs.Answer.Laws as E′
-use Rattle.lent.specs.Meaning.{left, leftOf}
-use Rattle.lent.specs.declared.Taken.{Taken}
+use Rattle.machine.specs.Meaning.{left, leftOf}
+use Rattle.machine.specs.declared.Stepped.{Stepped}
 use Rattle.lent.proofs.Places.{rest-stayed, rest-goes}
-use Rattle.lent.proofs.Taken as S
-use Rattle.lent.proofs.Taken.Laws as S′
+use Rattle.machine.proofs.Stepped as S
+use Rattle.machine.proofs.Stepped.Laws as S′
 use Rattle.lent.proofs.step_lent as lent
 use Rattle.lent.proofs.step_lent.Symbol as lent-def
 use Rattle.lent.proofs.step_lent.Symbol.{name as #lent·step-lent}
@@ -130,7 +130,7 @@ module _ {M : Type 1} (𝓤 : URA M) (H : Heap 𝓤) (A : Atoms 𝓤) (W : Given
   Said a z l = left a z l ≡ leftOf (call h (step asked))
 
   -- the result, and what is known of its machine value
-  abbrev taken : Machine → Answer → Taken
+  abbrev taken : Machine → Answer → Stepped
   taken z a = record { machine = z; answer = a }
 
   answer-is : (a : Answer) (v : Val) → Is E.the-row a (v ∷ []) → Is E.the-row a (answer-vals a)

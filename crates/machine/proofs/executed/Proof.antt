@@ -1,5 +1,7 @@
 use mathlib.Core.Path.{_∙_, sym, ap}
 use mathlib.Core.List.{[]}
+use Rattle.instructions.specs.Meaning.{passed}
+use Rattle.instructions.proofs.Placed.{execute-at}
 use Rattle.loadiwkey.specs.Meaning.{randomData}
 use Rattle.model.specs.Calls.{StepCall}
 use Rattle.model.specs.Instructions as instructions
@@ -12,10 +14,8 @@ enum-known-d c = search needs
 
 execute-requires : tie.Need-execute-requires
 execute-requires c κs =
-    c .before .before .before .before .pre (c .before .d .given .0 .0) (c .before .d .given .0 .1 .0) (c .before .d .given .0 .1 .1 .0) (c .before .d .given .1)
-
-advance-requires : tie.Need-advance-requires
-advance-requires c κs = search needs
+    let d = c .before .before .d .given in
+    (c .before .before .before .before .before .before .pre .0, λ f e. c .before .before .before .before .before .before .pre .1 (d .0 .0) (d .0 .1 .0) (d .0 .1 .1 .0) (d .1) f e .1)
 
 enum-told : tie.Need-enum-told
 enum-told c = search needs
@@ -23,25 +23,31 @@ enum-told c = search needs
 enum-told-2 : tie.Need-enum-told-2
 enum-told-2 c = search needs
 
+same-length : tie.Need-same-length
+same-length c = search needs
+
 returns : tie.Need-returns
 returns c =
-    let a = c .before .before .before .before .before .before .before .before .args in
-    let s : StepCall = record { processor = 0; cpu = a .cpu; memory = a .memory .now; random = randomData (a .random); string = [] } in
-    let bytes = c .before .before .before .before .before .d .given .0 .1 .1 .0 in
-    let x = c .before .before .before .execute .ensures in
-    (λ j. record { key = x j .key; cpu = (c .advance .ensures ∙ ap (λ (y : instructions.Executed). instructions.advanced bytes (y .cpu)) x) j })
-    ∙ ap (instructions.stepped s (a .k)) (sym (c .before .before .before .before .before .d .given .1))
+    let a = c .before .before .before .before .before .before .before .before .before .args in
+    let s : StepCall = record { processor = 0; cpu = a .cpu .now; memory = a .memory .now; random = randomData (a .random); string = [] } in
+    let d = c .before .before .before .before .before .d .given in
+    let bytes = d .0 .1 .1 .0 in
+    c .before .before .execute .ensures
+    ∙ ap (passed bytes)
+    (execute-at (a .at) (a .memory .now) (randomData (a .random)) bytes (a .k) (a .cpu .now) (d .0 .0)
+    (λ f e. c .before .before .before .before .before .before .before .before .before .pre .1 (d .0 .0) (d .0 .1 .0) bytes (d .1) f e .0))
+    ∙ ap (instructions.stepped s (a .k)) (sym (d .1))
 
 returns-2 : tie.Need-returns-2
 returns-2 c =
-    let a = c .before .before .before .args in
-    let s : StepCall = record { processor = 0; cpu = a .cpu; memory = a .memory .now; random = randomData (a .random); string = [] } in
+    let a = c .before .before .before .before .args in
+    let s : StepCall = record { processor = 0; cpu = a .cpu .now; memory = a .memory .now; random = randomData (a .random); string = [] } in
     ap (instructions.stepped s (a .k)) (sym (c .enum-told .given .1))
 
 returns-3 : tie.Need-returns-3
 returns-3 c =
-    let a = c .before .before .before .args in
-    let s : StepCall = record { processor = 0; cpu = a .cpu; memory = a .memory .now; random = randomData (a .random); string = [] } in
+    let a = c .before .before .before .before .args in
+    let s : StepCall = record { processor = 0; cpu = a .cpu .now; memory = a .memory .now; random = randomData (a .random); string = [] } in
     ap (instructions.stepped s (a .k)) (sym (c .enum-told2 .given .1))
 
 pub executed-spec : {M : Type 1} → statement M
@@ -50,9 +56,9 @@ executed-spec =
     (tie.spec
     enum-known-d
     execute-requires
-    advance-requires
     enum-told
     enum-told-2
+    same-length
     returns
     returns-2
     returns-3)

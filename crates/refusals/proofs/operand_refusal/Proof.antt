@@ -5,6 +5,9 @@ use Rattle.isa.specs.declared.Address.{Address}
 use Rattle.isa.specs.declared.Instruction.{Instruction}
 use Rattle.model.specs.Cpu.{register}
 use Rattle.model.specs.Refusals.{first, encodeFault}
+use Rattle.model.specs.Forms.{formOf}
+use Rattle.refusals.specs.Parts.{tested, loadedFrom}
+use Rattle.refusals.specs.declared.Tested.{Tested}
 use Rattle.refusals.proofs.Parts.{handleTests, operandTests}
 use Rattle.refusals.proofs.Calls.{operand-within}
 use borrow.Author.Needs.{needs}
@@ -55,44 +58,56 @@ fault-requires-2 c κs = search needs
 
 returns : tie.Need-returns
 returns c =
-    let st = c .before .before .before .before .before .before in
-    let cpu = st .args .cpu .now in
+    let a = c .before .before .before .before .before .before .args in
+    let cpu = a .cpu .now in
+    let told : Instruction → Tested =
+    λ w. tested (first (operandTests (a .features) cpu (a .memory) w (a .bytes))) (loadedFrom cpu (a .bytes) (formOf w)) in
     let u = c .before .before .before .what .given .0 .0 in
     λ n p r lock.
     c .handle-refusal .ensures
-    ∙ ap (λ (a : Address). first (handleTests (st .args .memory) a (u .size))) (c .before .handle-address .ensures)
-    ∙ ap (λ (w : Instruction). first (operandTests (st .args .features) cpu (st .args .memory) w (st .args .bytes))) (sym (c .before .before .before .what .given .1))
-    ∙ operand-within n (st .args .features) p cpu (st .args .memory) r (st .args .what) lock (st .args .bytes)
+    ∙ ap (λ (x : Address). tested (first (handleTests (a .memory) x (u .size))) (x .linear)) (c .before .handle-address .ensures)
+    ∙ ap told (sym (c .before .before .before .what .given .1))
+    ∙ ap (λ (n : ℕ). tested n (loadedFrom cpu (a .bytes) (formOf (a .what))))
+    (operand-within n (a .features) p cpu (a .memory) r (a .what) lock (a .bytes))
 
 returns-2 : tie.Need-returns-2
 returns-2 c =
-    let st = c .before .before .before .before .before .before in
-    let cpu = st .args .cpu .now in
+    let a = c .before .before .before .before .before .before .args in
+    let cpu = a .cpu .now in
+    let told : Instruction → Tested =
+    λ w. tested (first (operandTests (a .features) cpu (a .memory) w (a .bytes))) (loadedFrom cpu (a .bytes) (formOf w)) in
     let u = c .before .before .before .what2 .given .0 .0 in
     λ n p r lock.
     c .handle-refusal2 .ensures
-    ∙ ap (λ (a : Address). first (handleTests (st .args .memory) a (u .size))) (c .before .handle-address2 .ensures)
-    ∙ ap (λ (w : Instruction). first (operandTests (st .args .features) cpu (st .args .memory) w (st .args .bytes))) (sym (c .before .before .before .what2 .given .1))
-    ∙ operand-within n (st .args .features) p cpu (st .args .memory) r (st .args .what) lock (st .args .bytes)
+    ∙ ap (λ (x : Address). tested (first (handleTests (a .memory) x (u .size))) (x .linear)) (c .before .handle-address2 .ensures)
+    ∙ ap told (sym (c .before .before .before .what2 .given .1))
+    ∙ ap (λ (n : ℕ). tested n (loadedFrom cpu (a .bytes) (formOf (a .what))))
+    (operand-within n (a .features) p cpu (a .memory) r (a .what) lock (a .bytes))
 
 returns-3 : tie.Need-returns-3
 returns-3 c =
-    let st = c .before .before .before .before .before in
-    let cpu = st .args .cpu .now in
+    let a = c .before .before .before .before .before .args in
+    let cpu = a .cpu .now in
+    let told : Instruction → Tested =
+    λ w. tested (first (operandTests (a .features) cpu (a .memory) w (a .bytes))) (loadedFrom cpu (a .bytes) (formOf w)) in
     λ n p r lock.
-    c .fault .ensures ∙ ap (λ (t : Bool). cond t 12 0) (c .before .load-fault .ensures)
-    ∙ ap (λ (w : Instruction). first (operandTests (st .args .features) cpu (st .args .memory) w (st .args .bytes))) (sym (c .before .before .enum-told .given .1))
-    ∙ operand-within n (st .args .features) p cpu (st .args .memory) r (st .args .what) lock (st .args .bytes)
+    c .fault .ensures ∙ ap (λ (t : Bool). tested (cond t 12 0) 0) (c .before .load-fault .ensures)
+    ∙ ap told (sym (c .before .before .enum-told .given .1))
+    ∙ ap (λ (n : ℕ). tested n (loadedFrom cpu (a .bytes) (formOf (a .what))))
+    (operand-within n (a .features) p cpu (a .memory) r (a .what) lock (a .bytes))
 
 returns-4 : tie.Need-returns-4
 returns-4 c =
-    let st = c .before .before .before .before .before .before .before .before in
-    let cpu = st .args .cpu .now in
+    let a = c .before .before .before .before .before .before .before .before .args in
+    let cpu = a .cpu .now in
+    let told : Instruction → Tested =
+    λ w. tested (first (operandTests (a .features) cpu (a .memory) w (a .bytes))) (loadedFrom cpu (a .bytes) (formOf w)) in
     λ n p r lock.
     c .fault2 .ensures
-    ∙ ap (λ (t : Bool). cond t 12 0) (c .before .encode-fault .ensures ∙ ap encodeFault (c .before .before .register .ensures ∙ ap (λ (n : ℕ). register n cpu) (c .before .before .before .register-of .ensures)))
-    ∙ ap (λ (w : Instruction). first (operandTests (st .args .features) cpu (st .args .memory) w (st .args .bytes))) (sym (c .before .before .before .before .before .what3 .given .1))
-    ∙ operand-within n (st .args .features) p cpu (st .args .memory) r (st .args .what) lock (st .args .bytes)
+    ∙ ap (λ (t : Bool). tested (cond t 12 0) 0) (c .before .encode-fault .ensures ∙ ap encodeFault (c .before .before .register .ensures ∙ ap (λ (n : ℕ). register n cpu) (c .before .before .before .register-of .ensures)))
+    ∙ ap told (sym (c .before .before .before .before .before .what3 .given .1))
+    ∙ ap (λ (n : ℕ). tested n (loadedFrom cpu (a .bytes) (formOf (a .what))))
+    (operand-within n (a .features) p cpu (a .memory) r (a .what) lock (a .bytes))
 
 pub operand-refusal-spec : {M : Type 1} → statement M
 operand-refusal-spec =

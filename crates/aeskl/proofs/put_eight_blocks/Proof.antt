@@ -8,23 +8,23 @@ use borrow.Author.Needs.{needs}
 use lib.ListN.{length, getD, length-set}
 use lib.Seq.{ext-getD}
 use Rattle.bits.proofs.Lists.{filled}
-use Rattle.lent.proofs.write_record.Statement.{statement}
-use Rattle.lent.proofs.write_record.Tie as tie
+use Rattle.aeskl.proofs.put_eight_blocks.Statement.{statement}
+use Rattle.aeskl.proofs.put_eight_blocks.Tie as tie
 
 abbrev Inv-loop : tie.InvT-loop
-Inv-loop cpu₀ bytes i₀ cpu i = (i ≤ 408) × (length cpu ≡ 408) × ((k : ℕ) → k < i → getD cpu k 0 ≡ getD bytes k 0)
+Inv-loop s₀ blocks i₀ s i = (i ≤ 128) × (length s ≡ 128) × ((k : ℕ) → k < i → getD s k 0 ≡ getD blocks k 0)
 
 abbrev μ-loop : tie.MeasureT-loop
-μ-loop cpu₀ bytes i₀ cpu i = 408 - i
+μ-loop s₀ blocks i₀ s i = 128 - i
 
 loop-holds : tie.Need-loop-holds Inv-loop μ-loop
 loop-holds c = (search needs, c .pre, below-none _)
 
-array-read-cpu : tie.Need-array-read-cpu Inv-loop μ-loop
-array-read-cpu c = search needs
+array-read-s : tie.Need-array-read-s Inv-loop μ-loop
+array-read-s c = search needs
 
-slice-write-cpu : tie.Need-slice-write-cpu Inv-loop μ-loop
-slice-write-cpu c = search needs
+slice-write-s : tie.Need-slice-write-s Inv-loop μ-loop
+slice-write-s c = search needs
 
 add-i : tie.Need-add-i Inv-loop μ-loop
 add-i c = search needs
@@ -36,7 +36,7 @@ loop-again : tie.Need-loop-again Inv-loop μ-loop
 loop-again c =
     let at-loop = c .before in
     let s = at-loop .before .args .t2 in
-    let r = at-loop .loop .cpu in
+    let r = at-loop .loop .s in
     let i = at-loop .loop .i in (
       omega (arith, c .loop-test .taken),
       length-set r i (getD s i 0) ∙ at-loop .loop .inv .1,
@@ -50,18 +50,18 @@ returns : tie.Need-returns Inv-loop μ-loop
 returns c =
     let at-loop = c .before in
     let n = at-loop .loop .inv .1 in
-    let m : length (at-loop .before .args .t2) ≡ 408 = search needs in
-    ext-getD 0 (at-loop .loop .cpu) (at-loop .before .args .t2) (n ∙ sym m) (λ k h. at-loop .loop .inv .2 k (omega (arith, n, c .loop-test .left)))
+    let m : length (at-loop .before .args .t2) ≡ 128 = search needs in
+    ext-getD 0 (at-loop .loop .s) (at-loop .before .args .t2) (n ∙ sym m) (λ k h. at-loop .loop .inv .2 k (omega (arith, n, c .loop-test .left)))
 
-pub write-record-spec : {M : Type 1} → statement M
-write-record-spec =
+pub put-eight-blocks-spec : {M : Type 1} → statement M
+put-eight-blocks-spec =
     tie.close
     (tie.spec
     Inv-loop
     μ-loop
     loop-holds
-    array-read-cpu
-    slice-write-cpu
+    array-read-s
+    slice-write-s
     add-i
     loop-less
     loop-again

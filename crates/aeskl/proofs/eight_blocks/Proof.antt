@@ -8,23 +8,23 @@ use borrow.Author.Needs.{needs}
 use lib.ListN.{length, getD, length-set}
 use lib.Seq.{ext-getD}
 use Rattle.bits.proofs.Lists.{filled}
-use Rattle.instructions.proofs.record_of.Statement.{statement}
-use Rattle.instructions.proofs.record_of.Tie as tie
+use Rattle.aeskl.proofs.eight_blocks.Statement.{statement}
+use Rattle.aeskl.proofs.eight_blocks.Tie as tie
 
 abbrev Inv-loop : tie.InvT-loop
-Inv-loop cpu c₀ i₀ c i = (i ≤ 408) × (length c ≡ 408) × ((k : ℕ) → k < i → getD c k 0 ≡ getD cpu k 0)
+Inv-loop s blocks₀ i₀ blocks i = (i ≤ 128) × (length blocks ≡ 128) × ((k : ℕ) → k < i → getD blocks k 0 ≡ getD s k 0)
 
 abbrev μ-loop : tie.MeasureT-loop
-μ-loop cpu c₀ i₀ c i = 408 - i
+μ-loop s blocks₀ i₀ blocks i = 128 - i
 
 loop-holds : tie.Need-loop-holds Inv-loop μ-loop
 loop-holds c = (search needs, search needs, below-none _)
 
-shared-slice-read-c : tie.Need-shared-slice-read-c Inv-loop μ-loop
-shared-slice-read-c c = search needs
+shared-slice-read-blocks : tie.Need-shared-slice-read-blocks Inv-loop μ-loop
+shared-slice-read-blocks c = search needs
 
-array-write-c : tie.Need-array-write-c Inv-loop μ-loop
-array-write-c c = search needs
+array-write-blocks : tie.Need-array-write-blocks Inv-loop μ-loop
+array-write-blocks c = search needs
 
 add-i : tie.Need-add-i Inv-loop μ-loop
 add-i c = search needs
@@ -35,8 +35,8 @@ loop-less c = search needs
 loop-again : tie.Need-loop-again Inv-loop μ-loop
 loop-again c =
     let at-loop = c .before .before in
-    let cpu = at-loop .before .args .cpu .now in
-    let r = at-loop .loop .c in
+    let cpu = at-loop .before .args .s .now in
+    let r = at-loop .loop .blocks in
     let i = at-loop .loop .i in (
       omega (arith, c .before .loop-test .taken),
       length-set r i (getD cpu i 0) ∙ at-loop .loop .inv .1,
@@ -46,19 +46,19 @@ loop-again c =
 returns : tie.Need-returns Inv-loop μ-loop
 returns c =
     let at-loop = c .before in
-    let cpu = at-loop .before .args .cpu .now in
+    let cpu = at-loop .before .args .s .now in
     let n = at-loop .loop .inv .1 in
-    ext-getD 0 (at-loop .loop .c) cpu (n ∙ sym (at-loop .before .pre)) (λ k h. at-loop .loop .inv .2 k (omega (arith, n, c .loop-test .left)))
+    ext-getD 0 (at-loop .loop .blocks) cpu (n ∙ sym (at-loop .before .pre)) (λ k h. at-loop .loop .inv .2 k (omega (arith, n, c .loop-test .left)))
 
-pub record-of-spec : {M : Type 1} → statement M
-record-of-spec =
+pub eight-blocks-spec : {M : Type 1} → statement M
+eight-blocks-spec =
     tie.close
     (tie.spec
     Inv-loop
     μ-loop
     loop-holds
-    shared-slice-read-c
-    array-write-c
+    shared-slice-read-blocks
+    array-write-blocks
     add-i
     loop-less
     loop-again
