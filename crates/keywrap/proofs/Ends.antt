@@ -1,20 +1,16 @@
--- POLYVAL, wrapping and unwrapping from their steps.
+-- Wrapping and unwrapping from their steps.
 -- Assumes nothing.
 use mathlib.Core.Path.{_≡_, refl, sym, ap, ap₂, _∙_}
 use mathlib.Core.Bool.{Bool, true, false, cond}
-use mathlib.Core.List.{List, [], _∷_, _++_, map, map-append, flatMap}
+use mathlib.Core.List.{List, [], _∷_, _++_, flatMap}
 use mathlib.Core.Option.{Option, none, some}
 use Prim.Native.Nat.{ℕ, _*_, _/_, _≤_}
 use lib.ListN.{length, take}
 use Rattle.bits.specs.Bytes.{xorBytes, alike}
-use Rattle.bits.specs.Words.{leValue}
 use Rattle.fips197.specs.Aes.{encrypt}
 use Rattle.fips197.specs.Cipher.{cipher}
 use Rattle.fips197.specs.KeyExpansion.{keyExpansion}
 use Rattle.fips197.proofs.Undo.{cipher-length}
-use Rattle.rfc8452.specs.Field.{add, dot}
-use Rattle.rfc8452.specs.Polyval.{polyvalFrom}
-use Rattle.polyval.proofs.Folding.{from-more}
 use Rattle.handle.specs.Format.{handle, aadOf, tagOf}
 use Rattle.handle.specs.Wrap.{hashed, clearTop, tag, counterBlocks, keystream, masked, wrapKey, decrypted, unwrapKey}
 use Rattle.handle.proofs.Wrap.{masked-length, handle-aad, handle-tag, handle-ciphertext}
@@ -24,13 +20,6 @@ use Rattle.keywrap.proofs.Parts.{unpadded, handle-padded}
 padded-cond : (key : List ℕ) (b : Bool) → _≡_ {A = Option (List ℕ)} (cond b (some (padded 32 key)) none) (paddedKey (cond b (some key) none))
 padded-cond key true = refl
 padded-cond key false = refl
-
-pub hash-ends : (h : ℕ) (aad len : List ℕ) (bs : List (List ℕ)) (s₁ s₂ s₃ : ℕ) → s₁ ≡ dot (add 0 (leValue aad)) h → s₂ ≡ polyvalFrom h s₁ (map leValue bs)
-    → s₃ ≡ dot (add s₂ (leValue len)) h → s₃ ≡ polyvalFrom h 0 (map leValue (aad ∷ (bs ++ (len ∷ []))))
-hash-ends h aad len bs s₁ s₂ s₃ e f g =
-    let s = dot (add 0 (leValue aad)) h in
-    g ∙ ap (λ (n : ℕ). dot (add n (leValue len)) h) (f ∙ ap (λ (n : ℕ). polyvalFrom h n (map leValue bs)) e)
-    ∙ sym (from-more h s (leValue len) (map leValue bs)) ∙ ap (polyvalFrom h s) (sym (map-append leValue bs (len ∷ [])))
 
 -- what the code computes by a schedule w, where w is the expansion of e
 module _ (e w : List ℕ) (expanded : w ≡ keyExpansion 8 e) where

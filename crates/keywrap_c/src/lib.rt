@@ -1,5 +1,5 @@
-// POLYVAL over the blocks of a slice, unwrapping with its tables made, and the same and wrapping for C callers, which bench/ measures. A `size` of 0 is AES-128, any other AES-256; of a key or handle for AES-128
-// the last 16 bytes are not read, and written as zeros.
+// Unwrapping with its tables made, and POLYVAL, wrapping and unwrapping for C callers, which bench/ measures. A `size` of 0 is AES-128, any other AES-256;
+// of a key or handle for AES-128 the last 16 bytes are not read, and written as zeros.
 ghost use mathlib.Core.Path.{_≡_};
 ghost use Prim.Native.Nat.{_/_, _+_, _*_};
 ghost use lib.ListN.{length, take};
@@ -26,11 +26,7 @@ use keywrap::Handle;
 use keywrap::Unwrapped;
 use keywrap::siv::unwrap_with;
 use keywrap::siv::wrap;
-use polyval::Element;
-use polyval::field::from_block;
-use polyval::field::to_block;
-use polyval::hash::update;
-use polyval::table::multiples;
+use polyval::polyval;
 use sbox::sbox_table;
 
 fn key_to_bytes(k: Key) -> [u8; 32]
@@ -84,22 +80,6 @@ fn bytes(u: Unwrapped) -> [u8; 32]
         return [0u8; 32];
     };
     key_to_bytes(k)
-}
-
-// POLYVAL of the whole blocks of a slice.
-pub fn polyval(h: Block, bytes: &[u8]) -> Block
-    ensures { λ r. ⌜ bytesOf r ≡ rfc.polyval (bytesOf h) (blocks (length (now (bytes .entry)) / 16) (now (bytes .entry))) ⌝ }
-{
-    let table = multiples(from_block(h));
-    let n = bytes.len() / 16;
-    let mut s = Element { lo: 0, hi: 0 };
-    let mut i: usize = 0;
-    while i < n {
-        let v = update(&table, s, block_at(bytes, 16 * i));
-        s = v;
-        i += 1;
-    }
-    to_block(s)
 }
 
 pub fn unwrap(size: KeySize, integrity: Block, encryption: Key, handle: Handle) -> Unwrapped

@@ -10,7 +10,7 @@ use Rattle.bits.proofs.Blocks.{blocks-more}
 use Rattle.rfc8452.specs.Field.{add, dot}
 use Rattle.rfc8452.specs.Polyval.{polyvalFrom}
 
-pub from-more : (h s x : ℕ) (l : List ℕ) → polyvalFrom h s (l ++ (x ∷ [])) ≡ dot (add (polyvalFrom h s l) x) h
+from-more : (h s x : ℕ) (l : List ℕ) → polyvalFrom h s (l ++ (x ∷ [])) ≡ dot (add (polyvalFrom h s l) x) h
 from-more h s x [] = refl
 from-more h s x (y ∷ l) = from-more h (dot (add s y) h) x l
 

@@ -60,7 +60,7 @@ fn add_wide(w: Wide, e: Element) -> Wide
     }
 }
 
-pub fn dot(multiples: &[u64; 32], a: Element) -> Element
+pub(crate) fn dot(multiples: &[u64; 32], a: Element) -> Element
     requires { ⌜ MultiplesTable (now multiples) ⌝ }
     ensures { λ r. ⌜ num r ≡ rfc.dot (num a) (first (now (multiples .entry))) ⌝ }
 {

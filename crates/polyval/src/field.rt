@@ -8,7 +8,7 @@ ghost use Rattle.polyval.specs.Meaning.{num};
 use crate::Element;
 use aes::Block;
 
-pub fn add(a: Element, b: Element) -> Element
+pub(crate) fn add(a: Element, b: Element) -> Element
     ensures { λ r. ⌜ num r ≡ rfc.add (num a) (num b) ⌝ }
 {
     Element {
@@ -35,7 +35,7 @@ fn join(low: u32, high: u32) -> u64
     low as u64 + ((high as u64) << 32)
 }
 
-pub fn from_block(b: Block) -> Element
+pub(crate) fn from_block(b: Block) -> Element
     ensures { λ r. ⌜ num r ≡ leValue (bytesOf b) ⌝ }
 {
     Element {
@@ -44,7 +44,7 @@ pub fn from_block(b: Block) -> Element
     }
 }
 
-pub fn to_block(e: Element) -> Block
+pub(crate) fn to_block(e: Element) -> Block
     ensures { λ r. ⌜ bytesOf r ≡ leBytes 16 (num e) ⌝ }
 {
     Block {

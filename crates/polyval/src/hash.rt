@@ -11,7 +11,7 @@ use crate::field::from_block;
 use aes::Block;
 
 // S_j = dot(S_{j-1} + X_j, H), by the table of H.
-pub fn update(multiples: &[u64; 32], s: Element, x: Block) -> Element
+pub(crate) fn update(multiples: &[u64; 32], s: Element, x: Block) -> Element
     requires { ⌜ MultiplesTable (now multiples) ⌝ }
     ensures { λ r. ⌜ num r ≡ rfc.dot (rfc.add (num s) (leValue (bytesOf x))) (first (now (multiples .entry))) ⌝ }
 {

@@ -27,7 +27,7 @@ fn put_entry(multiples: &mut [u64; 32], u: usize, e: Element)
 }
 
 // The table of h.
-pub fn multiples(h: Element) -> [u64; 32]
+pub(crate) fn multiples(h: Element) -> [u64; 32]
     ensures { λ r. ⌜ (first r ≡ num h) × MultiplesTable r ⌝ }
 {
     let mut table = [0u64; 32];

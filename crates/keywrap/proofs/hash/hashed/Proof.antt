@@ -1,65 +1,135 @@
 -- Assumes nothing.
-use mathlib.Core.Path.{ap, ap₂, _∙_}
-use mathlib.Core.List.{List, [], _∷_, _++_, map}
+use mathlib.Core.Path.{_≡_, sym, ap, ap₂, _∙_}
+use mathlib.Core.List.{List, [], _∷_, _++_}
 use Prim.Native.Nat.{ℕ, _/_}
-use lib.ListN.{length}
+use lib.ListN.{length, take, replicate}
+use lib.Seq.{sets}
 use Rattle.bits.specs.Blocks.{blocks}
-use Rattle.bits.specs.Words.{leBytes, leValue}
 use Rattle.aes.specs.Meaning.{bytesOf, keyBytes}
-use Rattle.rfc8452.specs.Polyval.{polyvalFrom, polyval}
-use Rattle.polyval.specs.Meaning.{first}
-use Rattle.handle.specs.Wrap.{hashed}
-use Rattle.keywrap.proofs.Ends.{hash-ends}
+use Rattle.aes.specs.declared.Block.{Block}
+use Rattle.aes.specs.declared.Key.{Key}
+use Rattle.fips197.specs.declared.KeySize.{KeySize}
+use Rattle.rfc8452.specs.Polyval.{polyval}
+use Rattle.handle.specs.Wrap.{lengthBlock, hashed}
 use borrow.Author.Needs.{needs}
 use Rattle.keywrap.proofs.hash.hashed.Statement.{statement}
 use Rattle.keywrap.proofs.hash.hashed.Tie as tie
 
-from-block-requires : tie.Need-from-block-requires
-from-block-requires c κs = search needs
+-- three blocks stored one after the other
+three : (a b c : Block) {l₁ l₂ l₃ : List ℕ} → l₁ ≡ sets (replicate 64 0) 0 (bytesOf a) → l₂ ≡ sets l₁ 16 (bytesOf b) → l₃ ≡ sets l₂ 32 (bytesOf c)
+    → l₃ ≡ sets (sets (sets (replicate 64 0) 0 (bytesOf a)) 16 (bytesOf b)) 32 (bytesOf c)
+three a b c e f g = g ∙ ap (λ (l : List ℕ). sets l 32 (bytesOf c)) (f ∙ ap (λ (l : List ℕ). sets l 16 (bytesOf b)) e)
 
-multiples-requires : tie.Need-multiples-requires
-multiples-requires c κs = search needs
-
-update-requires : tie.Need-update-requires
-update-requires c κs = search needs
-
-hash-key-requires : tie.Need-hash-key-requires
-hash-key-requires c κs = search needs
+-- POLYVAL over the blocks of a size that the match told
+hashed-blocks : (h aad : List ℕ) (k : Key) {size told : KeySize} {len : List ℕ} → size ≡ told → len ≡ lengthBlock aad (keyBytes size k)
+    → polyval h (aad ∷ (blocks (length (keyBytes told k) / 16) (keyBytes told k) ++ (len ∷ []))) ≡ hashed h aad (keyBytes size k)
+unfolding hashed
+hashed-blocks h aad k e f =
+    ap₂ (λ (b : List ℕ) (z : KeySize). polyval h (aad ∷ (blocks (length (keyBytes z k) / 16) (keyBytes z k) ++ (b ∷ [])))) f (sym e)
 
 length-block-requires : tie.Need-length-block-requires
 length-block-requires c κs = search needs
 
-update-requires-2 : tie.Need-update-requires-2
-update-requires-2 c κs = search needs
+slice-aggregate-put-block : tie.Need-slice-aggregate-put-block
+slice-aggregate-put-block c = search needs
 
-to-block-requires : tie.Need-to-block-requires
-to-block-requires c κs = search needs
+put-block-requires : tie.Need-put-block-requires
+put-block-requires c κs = search needs
+
+slice-aggregate-put-block-2 : tie.Need-slice-aggregate-put-block-2
+slice-aggregate-put-block-2 c = search needs
+
+put-block-requires-2 : tie.Need-put-block-requires-2
+put-block-requires-2 c κs = search needs
+
+enum-told : tie.Need-enum-told
+enum-told c = search needs
+
+slice-aggregate-put-block-3 : tie.Need-slice-aggregate-put-block-3
+slice-aggregate-put-block-3 c = search needs
+
+put-block-requires-3 : tie.Need-put-block-requires-3
+put-block-requires-3 c κs = search needs
+
+array-share-prefix-bytes : tie.Need-array-share-prefix-bytes
+array-share-prefix-bytes c = search needs
+
+slice-aggregate-polyval : tie.Need-slice-aggregate-polyval
+slice-aggregate-polyval c =
+    let st = c .before .before .before .before .before .before .before .before .before .before .before .before .before in
+    sym (ap (λ (l : List ℕ). length (take 48 l))
+    (three (st .args .aad) (st .args .key .low) (c .before .before .before .before .before .before .before .before .before .before .before .before .length-block .result) (c .before .before .before .before .before .before .before .before .before .before .put-block .ensures) (c .before .before .before .before .before .before .before .put-block2 .ensures)
+    (c .before .before .put-block3 .ensures)))
+
+polyval-requires : tie.Need-polyval-requires
+polyval-requires c κs = search needs
+
+enum-told-2 : tie.Need-enum-told-2
+enum-told-2 c = search needs
+
+slice-aggregate-put-block-4 : tie.Need-slice-aggregate-put-block-4
+slice-aggregate-put-block-4 c = search needs
+
+put-block-requires-4 : tie.Need-put-block-requires-4
+put-block-requires-4 c κs = search needs
+
+slice-aggregate-put-block-5 : tie.Need-slice-aggregate-put-block-5
+slice-aggregate-put-block-5 c = search needs
+
+put-block-requires-5 : tie.Need-put-block-requires-5
+put-block-requires-5 c κs = search needs
+
+slice-aggregate-polyval-2 : tie.Need-slice-aggregate-polyval-2
+slice-aggregate-polyval-2 c = search needs
+
+polyval-requires-2 : tie.Need-polyval-requires-2
+polyval-requires-2 c κs = search needs
 
 returns : tie.Need-returns
-unfolding hashed polyval
 returns c =
-    let st = c .before .before .before .before .before .before .before .before .before .before in
-    let e = c .before .before .before .before .before .before .before .before .before .from-block in
-    let aad = bytesOf (st .args .aad) in
-    let key = keyBytes (st .args .size) (st .args .key) in
-    let bs = blocks (length key / 16) key in
-    let table = c .before .before .before .before .before .before .before .before .multiples in
-    let len = bytesOf (c .before .before .length-block .result) in
-    c .to-block .ensures
-    ∙ ap (leBytes 16)
-    (hash-ends (first (table .result)) aad len bs _ _ _ (c .before .before .before .before .before .before .update .ensures)
-    (c .before .before .before .before .hash-key .ensures) (c .before .update2 .ensures)
-    ∙ ap₂ (λ (n : ℕ) (b : List ℕ). polyvalFrom n 0 (map leValue (aad ∷ (bs ++ (b ∷ []))))) (table .ensures .0 ∙ e .ensures) (c .before .before .length-block .ensures))
+    let st = c .before .before .before .before .before .before .before .before .before .before .before .before .before .before in
+    let h = bytesOf (st .args .integrity) in
+    let lengths = c .before .before .before .before .before .before .before .before .before .before .before .before .before .length-block in
+    c .polyval .ensures
+    ∙ ap (λ (l : List ℕ). polyval h (blocks (length (take 48 l) / 16) (take 48 l)))
+    (three (st .args .aad) (st .args .key .low) (lengths .result) (c .before .before .before .before .before .before .before .before .before .before .before .put-block .ensures) (c .before .before .before .before .before .before .before .before .put-block2 .ensures)
+    (c .before .before .before .put-block3 .ensures))
+    ∙ hashed-blocks h (bytesOf (st .args .aad)) (st .args .key) (c .before .before .before .before .before .enum-told .given .1) (lengths .ensures)
+
+returns-2 : tie.Need-returns-2
+returns-2 c =
+    let st = c .before .before .before .before .before .before .before .before .before .before .before .before .before .before .before .before .before in
+    let h = bytesOf (st .args .integrity) in
+    let lengths = c .before .before .before .before .before .before .before .before .before .before .before .before .before .before .before .before .length-block in
+    c .polyval2 .ensures
+    ∙ ap (λ (l : List ℕ). polyval h (blocks (length l / 16) l))
+    (c .before .before .before .put-block5 .ensures
+    ∙ ap (λ (l : List ℕ). sets l 48 (bytesOf (lengths .result)))
+    (three (st .args .aad) (st .args .key .low) (st .args .key .high) (c .before .before .before .before .before .before .before .before .before .before .before .before .before .before .put-block .ensures) (c .before .before .before .before .before .before .before .before .before .before .before .put-block2 .ensures)
+    (c .before .before .before .before .before .before .put-block4 .ensures)))
+    ∙ hashed-blocks h (bytesOf (st .args .aad)) (st .args .key) (c .before .before .before .before .before .before .before .before .enum-told2 .given .1) (lengths .ensures)
 
 pub hashed-spec : {M : Type 1} → statement M
 hashed-spec =
     tie.close
     (tie.spec
-    from-block-requires
-    multiples-requires
-    update-requires
-    hash-key-requires
     length-block-requires
-    update-requires-2
-    to-block-requires
-    returns)
+    slice-aggregate-put-block
+    put-block-requires
+    slice-aggregate-put-block-2
+    put-block-requires-2
+    enum-told
+    slice-aggregate-put-block-3
+    put-block-requires-3
+    array-share-prefix-bytes
+    slice-aggregate-polyval
+    polyval-requires
+    enum-told-2
+    slice-aggregate-put-block-4
+    put-block-requires-4
+    slice-aggregate-put-block-5
+    put-block-requires-5
+    slice-aggregate-polyval-2
+    polyval-requires-2
+    returns
+    returns-2)

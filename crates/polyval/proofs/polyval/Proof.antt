@@ -10,10 +10,10 @@ use Rattle.bits.specs.Blocks.{blocks}
 use Rattle.bits.specs.Words.{leBytes, leValue}
 use Rattle.aes.specs.Meaning.{bytesOf}
 use Rattle.rfc8452.specs.Polyval.{polyvalFrom, polyval}
 use Rattle.polyval.specs.Meaning.{num, first}
 use Rattle.polyval.proofs.Folding.{block-more}
-use Rattle.keywrap_c.proofs.polyval.Statement.{statement}
-use Rattle.keywrap_c.proofs.polyval.Tie as tie
+use Rattle.polyval.proofs.polyval.Statement.{statement}
+use Rattle.polyval.proofs.polyval.Tie as tie
 
 abbrev Inv-loop : tie.InvT-loop
 Inv-loop bytes t n s₀ i₀ s i =
