@@ -1,12 +1,12 @@
 # make           build what make install installs, in build/: the library, its pkg-config file and the simulator
 # make install   install them and the header below $(DESTDIR)$(PREFIX); PREFIX is /usr/local unless given
 # make demo      run the simulator's built-in scenario
-# make bench     measure the proved libraries against AES, key wrapping and the cryptography of whole calls in C
+# make bench     measure the proved libraries against AES, key wrapping and the cryptography of whole calls in C, and the stack that each call needs
 # make examples  print the papers' examples, computed by the proved libraries
 # make test      all tests, as tests/run.sh has them
 # make test-decoder  compare the proved decoder with GNU objdump, on about a million strings
 # make test-machine  compare the proved machine with the model in Python, on 20,000 random calls
-# make test-host, test-valgrind, test-faults  compare the C library with a model in C; tests/host/rules.mk says how
+# make test-host, test-valgrind, test-faults, test-stack  compare the C library with a model in C, and run it on a small stack; tests/host/rules.mk says how
 # make test-simulator  the simulator on traces that the model in Python checks, the installed files, and the example for C
 # make clean     remove build/; what rt made is in target/
 
@@ -70,12 +70,14 @@ test-simulator: all
 
 # ---- measuring
 
-bench: build/bench_aes build/bench_keywrap build/bench_keylocker
+bench: build/bench_aes build/bench_keywrap build/bench_keylocker build/test_stack
 	./build/bench_aes
 	@echo
 	./build/bench_keywrap
 	@echo
 	./build/bench_keylocker
+	@echo
+	./build/test_stack
 
 build/bench_aes: $(AES:%=build/%.o) target/staticlib/libaes_c.a
 build/bench_keywrap: $(KEYWRAP:%=build/%.o) target/staticlib/libkeywrap_c.a

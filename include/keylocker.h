@@ -13,10 +13,12 @@
  * and *value are as they were.
  *
  * The caller need not check anything: every combination of arguments gets an answer. Lengths, contents and numbers are checked by the call, none is
- * assumed, and byte buffers need no alignment. What the caller owes is valid C:
+ * assumed, and byte buffers need no alignment. What the caller owes is valid C, and stack:
  *   - behind each pointer at least as many bytes as the length says, and a uint64_t behind value; a null pointer only with length 0;
  *   - no two buffers of a call overlap (a string that lies in guest memory is copied first);
- *   - no other thread uses a buffer while a call may write it.
+ *   - no other thread uses a buffer while a call may write it;
+ *   - below the caller's own frame KEYLOCKER_STACK_SIZE bytes of stack: no call goes deeper. Signal handlers on the same stack need theirs besides, and
+ *     so does a dynamic linker that binds memcpy, memmove and memset at their first call, some 3 KiB; linked with -z now it binds them before.
  * The library keeps nothing between calls and allocates nothing, so different machines may be used by different threads at the same time.
  *
  * All integers in buffers are little-endian.
@@ -28,6 +30,9 @@
 #include <stdint.h>
 
 #define KEYLOCKER_VERSION "1.0.0"
+
+/* bytes of stack that a call needs at most */
+#define KEYLOCKER_STACK_SIZE 12288
 
 #ifdef __cplusplus
 extern "C" {

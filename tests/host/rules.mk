@@ -2,12 +2,14 @@
 #   make test-host      500,000 random calls; build/test_host --seed random has others each time
 #   make test-valgrind  20,000 calls under valgrind, with buffers of exactly their length
 #   make test-faults    a model with one planted fault after the other: the runner has to find each
+#   make test-stack     every kind of call on a stack of KEYLOCKER_STACK_SIZE bytes, without the model; make bench prints the same figures
 
 HOST_FLAGS = -std=c11 -Wall -Wextra -Werror -O2 -Iinclude
 HOST_HEADERS := $(wildcard tests/host/*.h) include/keylocker.h
 HOST_OBJECTS := $(patsubst tests/host/%.c,build/host/%.o,$(wildcard tests/host/*.c))
+STACK_OBJECTS := $(patsubst tests/host/stack/%.c,build/stack/%.o,$(wildcard tests/host/stack/*.c))
 
-.PHONY: test-host test-valgrind test-faults
+.PHONY: test-host test-valgrind test-faults test-stack
 
 test-host: build/test_host
 	./build/test_host
@@ -25,4 +27,14 @@ build/test_host: $(HOST_OBJECTS) target/staticlib/libkeylocker.a
 
 build/host/%.o: tests/host/%.c $(HOST_HEADERS)
 	@mkdir -p build/host
+	$(CC) $(HOST_FLAGS) -c -o $@ $<
+
+test-stack: build/test_stack
+	./build/test_stack
+
+build/test_stack: $(STACK_OBJECTS) target/staticlib/libkeylocker.a
+	$(CC) $(HOST_FLAGS) -o $@ $^
+
+build/stack/%.o: tests/host/stack/%.c $(wildcard tests/host/stack/*.h) include/keylocker.h
+	@mkdir -p build/stack
 	$(CC) $(HOST_FLAGS) -c -o $@ $<

@@ -1,0 +1,91 @@
+#define _DEFAULT_SOURCE /* mmap's MAP_ANONYMOUS, sigaltstack */
+
+#include "guard.h"
+
+#include <setjmp.h>
+#include <signal.h>
+#include <stdint.h>
+#include <sys/mman.h>
+
+/* The library probes a frame of more than a page once a page, so no access skips this many. */
+enum { GUARD = 65536, HANDLER_STACK = 65536 };
+
+static uint8_t *room;
+static sigjmp_buf before_call;
+static volatile sig_atomic_t calling;
+
+/* read by the assembly below */
+uint8_t *small_stack_top;
+
+/* A function with the library's prototype that moves to the small stack for the call alone: what it needs itself, and what its caller needs, stays on the
+ * normal one. An argument on the stack is copied over, because the library looks for it there. */
+#define ON_SMALL_STACK(name, arguments)                \
+    __typeof__(keylocker_##name) small_##name;         \
+    __asm__(".text\n"                                  \
+            ".globl small_" #name "\n"                 \
+            ".type small_" #name ", @function\n"       \
+            "small_" #name ":\n"                       \
+            "    push %rbp\n"                          \
+            "    mov %rsp, %rbp\n"                     \
+            "    mov small_stack_top(%rip), %rsp\n"    \
+            arguments                                  \
+            "    call keylocker_" #name "\n"           \
+            "    mov %rbp, %rsp\n"                     \
+            "    pop %rbp\n"                           \
+            "    ret\n"                                \
+            ".size small_" #name ", . - small_" #name "\n")
+
+/* arguments 7 to 11, and 8 bytes that keep the stack aligned */
+#define FIVE_ON_STACK          \
+    "    sub $8, %rsp\n"       \
+    "    pushq 48(%rbp)\n"     \
+    "    pushq 40(%rbp)\n"     \
+    "    pushq 32(%rbp)\n"     \
+    "    pushq 24(%rbp)\n"     \
+    "    pushq 16(%rbp)\n"
+
+ON_SMALL_STACK(power_on, "");
+ON_SMALL_STACK(step, FIVE_ON_STACK);
+ON_SMALL_STACK(read, "");
+ON_SMALL_STACK(write, "");
+ON_SMALL_STACK(settle, "");
+ON_SMALL_STACK(sleep, "");
+ON_SMALL_STACK(reset, "");
+
+const struct entries on_normal_stack = {keylocker_power_on, keylocker_step,   keylocker_read, keylocker_write,
+                                        keylocker_settle,   keylocker_sleep, keylocker_reset};
+const struct entries on_small_stack = {small_power_on, small_step, small_read, small_write, small_settle, small_sleep, small_reset};
+
+/* The library keeps nothing between calls, so a call can be left in the middle. */
+static void on_fault(int number, siginfo_t *info, void *context)
+{
+    (void)context;
+    if (calling && (uintptr_t)room - (uintptr_t)info->si_addr <= GUARD)
+        siglongjmp(before_call, 1);
+    signal(number, SIG_DFL); /* not the guard: the access comes again and ends the program */
+}
+
+bool guard_start(void)
+{
+    static uint8_t handler_stack[HANDLER_STACK];
+    stack_t handler = {.ss_sp = handler_stack, .ss_size = sizeof handler_stack};
+    struct sigaction action = {.sa_sigaction = on_fault, .sa_flags = SA_SIGINFO | SA_ONSTACK};
+    uint8_t *all = mmap(NULL, GUARD + STACK_ROOM, PROT_READ | PROT_WRITE, MAP_PRIVATE | MAP_ANONYMOUS, -1, 0);
+    if (all == MAP_FAILED || mprotect(all, GUARD, PROT_NONE) != 0)
+        return false;
+    room = all + GUARD;
+    return sigaltstack(&handler, NULL) == 0 && sigaction(SIGSEGV, &action, NULL) == 0;
+}
+
+bool runs_on(size_t bytes, void (*make)(void *argument), void *argument)
+{
+    small_stack_top = room + bytes;
+    if (sigsetjmp(before_call, 1) != 0) {
+        calling = 0;
+        return false;
+    }
+    calling = 1;
+    make(argument);
+    calling = 0;
+    return true;
+}

@@ -1,0 +1,212 @@
+#include "kinds.h"
+
+#include <string.h>
+
+enum { COUNT = 16, PROCESSOR = COUNT - 1, HALF = KEYLOCKER_HANDLE_256_SIZE };
+
+/* opcode and ModRM behind F3 0F 38 */
+enum {
+    LOAD = 0xDCCA,       /* loadiwkey xmm1, xmm2 */
+    ENCODE_128 = 0xFAD9, /* encodekey128 ebx, ecx */
+    ENCODE_256 = 0xFBD9,
+    ENC_128 = 0xDC00, /* aesenc128kl xmm0, [rax] */
+    DEC_128 = 0xDD00,
+    ENC_256 = 0xDE02, /* aesenc256kl xmm0, [rdx] */
+    DEC_256 = 0xDF02,
+    ENC_WIDE_128 = 0xD800,
+    DEC_WIDE_128 = 0xD808,
+    ENC_WIDE_256 = 0xD812,
+    DEC_WIDE_256 = 0xD81A,
+    NO_STRING = 0xD820, /* /4 is no form */
+};
+
+static uint8_t *reg(struct lent *lent, int n)
+{
+    return lent->cpu + KEYLOCKER_CPU_REGISTERS + 8 * n;
+}
+
+/* ---- what sets a call apart from the others of its instruction ---- */
+
+static void with_reserved_bit(struct lent *lent) { lent->memory[4] = lent->memory[HALF + 4] = 1; }
+
+static void with_other_tag(struct lent *lent)
+{
+    lent->memory[16] ^= 1;
+    lent->memory[HALF + 16] ^= 1;
+}
+
+static void with_random(struct lent *lent) { reg(lent, KEYLOCKER_RAX)[0] = KEYLOCKER_LOADIWKEY_RANDOM; }
+
+static void without_random(struct lent *lent)
+{
+    with_random(lent);
+    lent->random_length = 0;
+}
+
+static void cut_short(struct lent *lent) { lent->string_length--; }
+
+static void at_cpl_3(struct lent *lent) { lent->cpu[KEYLOCKER_CPU_CPL] = 3; }
+
+static void with_bad_machine(struct lent *lent) { lent->machine[KEYLOCKER_MACHINE_CONSUMED] = 2; }
+
+static void with_bad_cpu(struct lent *lent) { lent->cpu[KEYLOCKER_CPU_CPL] = 4; }
+
+static void without_cr4_kl(struct lent *lent) { lent->cpu[KEYLOCKER_CPU_CONTROL] &= (uint8_t)~KEYLOCKER_CONTROL_CR4_KL; }
+
+static void outside_memory(struct lent *lent) { reg(lent, KEYLOCKER_RAX)[1] = 1; }
+
+static void not_canonical(struct lent *lent) { reg(lent, KEYLOCKER_RAX)[7] = 1; }
+
+/* the processor's key is no longer that of the backup, so that a copy in shows */
+static void with_zero_key(struct lent *lent)
+{
+    memset(lent->machine + KEYLOCKER_MACHINE_ENTRIES + PROCESSOR * KEYLOCKER_ENTRY_SIZE, 0, KEYLOCKER_IWKEY_SIZE);
+}
+
+static void with_pending(struct lent *lent)
+{
+    lent->answer = keylocker_write(lent->machine, sizeof lent->machine, PROCESSOR, 0, KEYLOCKER_COPY_LOCAL_TO_PLATFORM, 1);
+}
+
+#define USE(name, string)                                                       \
+    {name, STEP, string, NULL, 0, false, false},                                \
+    {name ", illegal handle", STEP, string, with_reserved_bit, 0, true, false}, \
+    {name ", handle not authentic", STEP, string, with_other_tag, 0, true, false}
+
+const struct kind kinds[] = {
+    {"power-on", POWER_ON, COUNT, NULL, 0, false, true},
+    {"power-on, refused", POWER_ON, COUNT + 1, NULL, KEYLOCKER_BAD_MACHINE, false, false},
+    {"read 0x990", READ, KEYLOCKER_COPY_STATUS, NULL, 0, false, false},
+    {"read 0x991", READ, KEYLOCKER_IWKEYBACKUP_STATUS, NULL, 0, false, false},
+    {"read, refused", READ, KEYLOCKER_COPY_LOCAL_TO_PLATFORM, NULL, KEYLOCKER_GP, false, false},
+    {"write 0xD91", WRITE, KEYLOCKER_COPY_LOCAL_TO_PLATFORM, NULL, 0, false, true},
+    {"write 0xD92", WRITE, KEYLOCKER_COPY_PLATFORM_TO_LOCAL, with_zero_key, 0, false, true},
+    {"write, refused", WRITE, KEYLOCKER_COPY_STATUS, NULL, KEYLOCKER_GP, false, false},
+    {"settle, good", SETTLE, KEYLOCKER_SETTLE_GOOD, with_pending, 0, false, true},
+    {"settle, bad", SETTLE, KEYLOCKER_SETTLE_BAD, with_pending, 0, false, true},
+    {"settle, refused", SETTLE, 2, with_pending, KEYLOCKER_BAD_CODE, false, false},
+    {"sleep, old", SLEEP, KEYLOCKER_WAKE_OLD, with_pending, 0, false, true},
+    {"sleep, new", SLEEP, KEYLOCKER_WAKE_NEW, with_pending, 0, false, true},
+    {"sleep, junk", SLEEP, KEYLOCKER_WAKE_JUNK, with_pending, 0, false, true},
+    {"sleep, refused", SLEEP, 3, with_pending, KEYLOCKER_BAD_CODE, false, false},
+    {"reset", RESET, 0, NULL, 0, false, true},
+    {"reset, refused", RESET, 0, with_bad_machine, KEYLOCKER_BAD_MACHINE, false, false},
+    {"LOADIWKEY", STEP, LOAD, NULL, 0, false, true},
+    {"LOADIWKEY, random data", STEP, LOAD, with_random, 0, false, true},
+    {"LOADIWKEY, random data not ready", STEP, LOAD, without_random, 0, true, false},
+    {"ENCODEKEY128", STEP, ENCODE_128, NULL, 0, false, false},
+    {"ENCODEKEY256", STEP, ENCODE_256, NULL, 0, false, false},
+    USE("AESENC128KL", ENC_128),
+    USE("AESDEC128KL", DEC_128),
+    USE("AESENC256KL", ENC_256),
+    USE("AESDEC256KL", DEC_256),
+    USE("AESENCWIDE128KL", ENC_WIDE_128),
+    USE("AESDECWIDE128KL", DEC_WIDE_128),
+    USE("AESENCWIDE256KL", ENC_WIDE_256),
+    USE("AESDECWIDE256KL", DEC_WIDE_256),
+    {"step, machine refused", STEP, ENC_128, with_bad_machine, KEYLOCKER_BAD_MACHINE, false, false},
+    {"step, CPU record refused", STEP, ENC_128, with_bad_cpu, KEYLOCKER_BAD_CPU, false, false},
+    {"step, string refused", STEP, NO_STRING, NULL, KEYLOCKER_BAD_BYTE, false, false},
+    {"step, string ends", STEP, ENC_128, cut_short, KEYLOCKER_STRING_ENDS, false, false},
+    {"step, #UD", STEP, ENC_128, without_cr4_kl, KEYLOCKER_UD, false, false},
+    {"step, LOADIWKEY's #GP", STEP, LOAD, at_cpl_3, KEYLOCKER_GP, false, false},
+    {"step, a use's #GP", STEP, ENC_128, not_canonical, KEYLOCKER_GP, false, false},
+    {"step, #PF", STEP, ENC_128, outside_memory, KEYLOCKER_PF, false, false},
+};
+const size_t kind_count = sizeof kinds / sizeof *kinds;
+
+/* ---- the call ---- */
+
+static void put_string(struct lent *lent, uint32_t string)
+{
+    const uint8_t bytes[sizeof lent->string] = {0xF3, 0x0F, 0x38, (uint8_t)(string >> 8), (uint8_t)string};
+    memcpy(lent->string, bytes, sizeof bytes);
+    lent->string_length = sizeof bytes;
+}
+
+static uint32_t step(const struct entries *entries, struct lent *lent)
+{
+    return entries->step(lent->machine, sizeof lent->machine, PROCESSOR, lent->cpu, sizeof lent->cpu, lent->memory, sizeof lent->memory, lent->random,
+                         lent->random_length, lent->string, lent->string_length);
+}
+
+static uint32_t answer(const struct kind *kind, const struct entries *entries, struct lent *lent)
+{
+    size_t length = sizeof lent->machine;
+    switch (kind->call) {
+    case POWER_ON:
+        return entries->power_on(lent->machine, length, (uint8_t)kind->number, KEYLOCKER_FEATURE_ALL);
+    case STEP:
+        return step(entries, lent);
+    case READ:
+        return entries->read(lent->machine, length, PROCESSOR, 0, kind->number, &lent->value);
+    case WRITE:
+        return entries->write(lent->machine, length, PROCESSOR, 0, kind->number, 1);
+    case SETTLE:
+        return entries->settle(lent->machine, length, (uint8_t)kind->number);
+    case SLEEP:
+        return entries->sleep(lent->machine, length, (uint8_t)kind->number);
+    default:
+        return entries->reset(lent->machine, length);
+    }
+}
+
+void make_call(const struct kind *kind, const struct entries *entries, struct lent *lent)
+{
+    lent->answer = answer(kind, entries, lent);
+}
+
+/* ---- before and after ---- */
+
+/* XMM0 to XMM15 different from each other, the handles' addresses in RAX and RDX */
+static void put_registers(struct lent *lent)
+{
+    memset(lent->cpu, 0, sizeof lent->cpu);
+    for (int i = 0; i < 256; i++)
+        lent->cpu[KEYLOCKER_CPU_XMM + i] = (uint8_t)(7 * i + 1);
+    reg(lent, KEYLOCKER_RDX)[0] = HALF;
+    lent->cpu[KEYLOCKER_CPU_CONTROL] = KEYLOCKER_CONTROL_CR4_KL | KEYLOCKER_CONTROL_CR4_OSFXSR;
+}
+
+static bool encode(struct lent *lent, uint32_t string, uint8_t *handle, size_t length)
+{
+    put_registers(lent);
+    put_string(lent, string);
+    bool done = step(&on_normal_stack, lent) == KEYLOCKER_DONE;
+    memcpy(handle, lent->cpu + KEYLOCKER_CPU_XMM, length);
+    return done;
+}
+
+/* a key on the last processor that persistent storage holds, too, and two handles under it */
+bool prepare(const struct kind *kind, struct lent *lent)
+{
+    memset(lent, 0, sizeof *lent);
+    memset(lent->random, 0x5A, sizeof lent->random);
+    lent->random_length = sizeof lent->random;
+    put_registers(lent);
+    put_string(lent, LOAD);
+    bool done = keylocker_power_on(lent->machine, sizeof lent->machine, COUNT, KEYLOCKER_FEATURE_ALL) == KEYLOCKER_DONE &&
+                step(&on_normal_stack, lent) == KEYLOCKER_DONE &&
+                keylocker_write(lent->machine, sizeof lent->machine, PROCESSOR, 0, KEYLOCKER_COPY_LOCAL_TO_PLATFORM, 1) == KEYLOCKER_DONE &&
+                keylocker_settle(lent->machine, sizeof lent->machine, KEYLOCKER_SETTLE_GOOD) == KEYLOCKER_DONE &&
+                encode(lent, ENCODE_128, lent->memory, KEYLOCKER_HANDLE_128_SIZE) &&
+                encode(lent, ENCODE_256, lent->memory + HALF, KEYLOCKER_HANDLE_256_SIZE);
+    put_registers(lent);
+    lent->cpu[0] ^= 1; /* so that LOADIWKEY loads another key */
+    lent->cpu[KEYLOCKER_CPU_RFLAGS] = kind->fails ? 0 : KEYLOCKER_RFLAGS_ZF;
+    put_string(lent, kind->number);
+    if (kind->spoil)
+        kind->spoil(lent);
+    return done && lent->answer == KEYLOCKER_DONE;
+}
+
+const char *not_as_meant(const struct kind *kind, const struct lent *before, const struct lent *after)
+{
+    if (after->answer != kind->answer)
+        return "another answer than meant";
+    if ((memcmp(before->machine, after->machine, sizeof after->machine) != 0) != kind->writes)
+        return kind->writes ? "the machine is as it was" : "the machine was written";
+    if (kind->call == STEP && !kind->answer && ((after->cpu[KEYLOCKER_CPU_RFLAGS] & KEYLOCKER_RFLAGS_ZF) != 0) != kind->fails)
+        return "another ZF than meant";
+    return NULL;
+}

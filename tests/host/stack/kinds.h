@@ -1,0 +1,40 @@
+/* The kinds of calls, each with what it is lent and what it must get. */
+#ifndef KINDS_H
+#define KINDS_H
+
+#include "guard.h"
+
+/* all that a call reads and writes, and its answer */
+struct lent {
+    uint8_t machine[KEYLOCKER_MACHINE_SIZE], cpu[KEYLOCKER_CPU_SIZE];
+    uint8_t memory[2 * KEYLOCKER_HANDLE_256_SIZE]; /* a handle for either size of key, each at its half's start */
+    uint8_t random[KEYLOCKER_RANDOM_SIZE], string[5];
+    size_t random_length, string_length;
+    uint64_t value;
+    uint32_t answer;
+};
+
+enum call { POWER_ON, STEP, READ, WRITE, SETTLE, SLEEP, RESET };
+
+struct kind {
+    const char *name;
+    enum call call;
+    uint32_t number; /* count, register or code; of a step opcode and ModRM behind F3 0F 38 */
+    void (*spoil)(struct lent *lent); /* or none */
+    uint32_t answer;
+    bool fails;  /* ZF after a step that is done */
+    bool writes; /* the machine differs afterwards */
+};
+
+extern const struct kind kinds[];
+extern const size_t kind_count;
+
+/* What the call is lent before. False if a call that it takes to get there had another answer than it should. */
+bool prepare(const struct kind *kind, struct lent *lent);
+
+void make_call(const struct kind *kind, const struct entries *entries, struct lent *lent);
+
+/* NULL, or what is not as the kind says */
+const char *not_as_meant(const struct kind *kind, const struct lent *before, const struct lent *after);
+
+#endif
