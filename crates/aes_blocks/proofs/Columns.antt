@@ -11,7 +11,7 @@ use Rattle.bits.specs.Words.{leBytes}
 use Rattle.bits.proofs.Lists.{list4}
 use Rattle.bits.proofs.Words.{le-xor}
 use Rattle.fips197.specs.Field.{multiply}
-use Rattle.fips197.specs.Cipher.{matrixRow}
+use Rattle.fips197.specs.Cipher.{matrixRow, mixRow}
 use Rattle.fips197.specs.KeyExpansion.{rotWord}
 use Rattle.bits.proofs.Field.{zero-times, times-xor}
 use Rattle.fips197.proofs.Field.{gf256}
@@ -24,6 +24,10 @@ unfolding mixed matrixRow
 first-part q s h =
     let alone : leBytes 4 s ≡ s ∷ 0 ∷ 0 ∷ 0 ∷ [] = list4 (omega arith) (omega arith) (omega arith) (omega arith) in
     ap (mixed q) alone ∙ simp (zero-times gf256, xor-zero-r)
+
+-- an entry of the table made of the S-box's table
+pub boxed : {a b : ℕ} {l : List ℕ} → a ≡ b → l ≡ part mixRow a 0 → l ≡ part mixRow b 0
+boxed same made = made ∙ ap (λ (s : ℕ). part mixRow s 0) same
 
 -- the products with 0
 pub no-products : (q m : List ℕ) → getD m 0 0 ≡ 0 → Products q 1 m

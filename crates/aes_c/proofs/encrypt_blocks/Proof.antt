@@ -1,3 +1,4 @@
+use Rattle.aes_blocks.proofs.Columns.{boxed}
 use borrow.Author.Needs.{needs}
 use Rattle.aes_c.proofs.encrypt_blocks.Statement.{statement}
 use Rattle.aes_c.proofs.encrypt_blocks.Tie as tie
@@ -11,7 +12,7 @@ mix-table-requires c κs = search needs
 encrypt-blocks-with-requires : tie.Need-encrypt-blocks-with-requires
 encrypt-blocks-with-requires c κs =
     let rule = c .before .before .before .before .before .before .sbox-table .ensures in
-    (c .before .before .before .mix-table .ensures, rule)
+    (λ i h. boxed (rule i h) (c .before .before .before .mix-table .ensures i h), rule)
 
 same-length : tie.Need-same-length
 same-length c = search needs

@@ -7,6 +7,7 @@ use Rattle.keywrap.specs.Meaning.{opened}
 use Rattle.model.specs.Cpu.{withXmm, withZf}
 use Rattle.model.specs.Instructions.{aes}
 use Rattle.aeskl.proofs.Openings.{illegal-used, none-used, key-used}
+use Rattle.aes_blocks.proofs.Columns.{boxed}
 use borrow.Author.Needs.{needs}
 use Rattle.aeskl.proofs.use_single.Statement.{statement}
 use Rattle.aeskl.proofs.use_single.Tie as tie
@@ -35,7 +36,7 @@ mix-table-requires c κs = search needs
 unwrapped-by-requires : tie.Need-unwrapped-by-requires
 unwrapped-by-requires c κs =
     let rule = c .before .before .before .before .before .sbox-table .ensures in
-    (c .before .before .mix-table .ensures, rule)
+    (λ i h. boxed (rule i h) (c .before .before .mix-table .ensures i h), rule)
 
 enum-known-key : tie.Need-enum-known-key
 enum-known-key c = search needs
@@ -62,7 +63,7 @@ xmm-requires c κs = sized (c .before .before .before .before .before .before .b
 cipher-block-requires : tie.Need-cipher-block-requires
 cipher-block-requires c κs =
     let rule = c .before .before .before .before .before .before .before .before .before .before .before .before .before .sbox-table .ensures in
-    (c .before .before .before .before .before .before .before .before .before .before .mix-table .ensures, rule)
+    (λ i h. boxed (rule i h) (c .before .before .before .before .before .before .before .before .before .before .mix-table .ensures i h), rule)
 
 done-single-requires : tie.Need-done-single-requires
 done-single-requires c κs = search needs

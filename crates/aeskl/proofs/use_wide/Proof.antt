@@ -2,6 +2,7 @@ use mathlib.Core.Path.{_∙_, sym, ap}
 use mathlib.Core.List.{[], _∷_}
 use Rattle.keywrap.specs.Meaning.{opened}
 use Rattle.aeskl.proofs.Openings.{illegal-used, none-used, key-used}
+use Rattle.aes_blocks.proofs.Columns.{boxed}
 use borrow.Author.Needs.{needs}
 use Rattle.aeskl.proofs.use_wide.Statement.{statement}
 use Rattle.aeskl.proofs.use_wide.Tie as tie
@@ -27,7 +28,7 @@ mix-table-requires c κs = search needs
 unwrapped-by-requires : tie.Need-unwrapped-by-requires
 unwrapped-by-requires c κs =
     let rule = c .before .before .before .before .before .sbox-table .ensures in
-    (c .before .before .mix-table .ensures, rule)
+    (λ i h. boxed (rule i h) (c .before .before .mix-table .ensures i h), rule)
 
 enum-known-key : tie.Need-enum-known-key
 enum-known-key c = search needs
@@ -48,7 +49,7 @@ returns-2 c =
 done-wide-requires : tie.Need-done-wide-requires
 done-wide-requires c κs =
     let rule = c .before .before .before .before .before .before .before .before .before .before .before .sbox-table .ensures in
-    (c .before .before .before .before .before .before .before .before .mix-table .ensures, rule)
+    (λ i h. boxed (rule i h) (c .before .before .before .before .before .before .before .before .mix-table .ensures i h), rule)
 
 returns-3 : tie.Need-returns-3
 returns-3 c =
