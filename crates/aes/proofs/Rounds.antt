@@ -1,29 +1,14 @@
--- The loops over the rounds: one round more, and the end.
+-- The loops over the rounds of the inverse cipher: one round more, and the end.
 -- Assumes nothing.
 use mathlib.Core.Path.{_≡_, sym, ap, ap₂, _∙_}
 use mathlib.Core.List.{List}
 use Prim.Native.Nat.{ℕ, suc, _+_, _-_, _≤_}
 use native.Mathlib.Omega.{arith}
-use Rattle.fips197.specs.Cipher.{addRoundKey, round, finalRound, rounds, cipher}
+use Rattle.fips197.specs.Cipher.{addRoundKey}
 use Rattle.fips197.specs.InvCipher.{invRound, invFinalRound, invRounds, invCipher}
 use Rattle.fips197.specs.KeyExpansion.{roundKey}
 
 module _ (w : List ℕ) where
-  -- round i, after those before it
-  pub rounds-more : (i : ℕ) (s₀ : List ℕ) {s k r : List ℕ} → 1 ≤ i → s ≡ rounds w (i - 1) s₀ → k ≡ roundKey w i → r ≡ round s k
-      → r ≡ rounds w (i + 1 - 1) s₀
-  unfolding rounds
-  rounds-more i s₀ h inv key e =
-      let f : suc (i - 1) ≡ i + 1 - 1 = omega arith in
-      let g : i ≡ i - 1 + 1 = omega arith in
-      e ∙ ap₂ round inv (key ∙ ap (roundKey w) g) ∙ ap (λ (n : ℕ). rounds w n s₀) f
-
-  pub cipher-ends : (nr i : ℕ) (b : List ℕ) {s₀ s k₀ k r : List ℕ} → i ≡ nr → k₀ ≡ roundKey w 0 → s₀ ≡ addRoundKey b k₀
-      → s ≡ rounds w (i - 1) s₀ → k ≡ roundKey w nr → r ≡ finalRound s k → r ≡ cipher w nr b
-  unfolding cipher
-  cipher-ends nr i b e key first inv last end =
-      end ∙ ap₂ finalRound (inv ∙ ap₂ (λ (n : ℕ) (s : List ℕ). rounds w (n - 1) s) e (first ∙ ap (addRoundKey b) key)) last
-
   -- counting down: round i, then those below it, which is all that is left
   pub inv-rounds-more : (i : ℕ) (s : List ℕ) {a k r : List ℕ} → 1 ≤ i → invRounds w i s ≡ a → k ≡ roundKey w i → r ≡ invRound s k
       → invRounds w (i - 1) r ≡ a

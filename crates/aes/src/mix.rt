@@ -13,7 +13,7 @@ fn xtime(x: u32) -> u32
 }
 
 // The rows of the matrix are one row, turned: so are the terms of the sum.
-fn stagger(a: u32, b: u32, c: u32, d: u32) -> u32
+pub fn stagger(a: u32, b: u32, c: u32, d: u32) -> u32
     ensures { λ r. ⌜ leBytes 4 r ≡ staggered (leBytes 4 a) (leBytes 4 b) (leBytes 4 c) (leBytes 4 d) ⌝ }
 {
     a ^ rot_word(b) ^ rot_word(rot_word(c)) ^ rot_word(rot_word(rot_word(d)))

@@ -8,11 +8,11 @@ ghost use Rattle.fips197.specs.Field as fips;
 ghost use Rattle.fips197.specs.Sbox.{InvSboxTable};
 ghost use Rattle.fips197.specs.Cipher.{mixRow};
 ghost use Rattle.fips197.specs.InvCipher.{invMixRow};
-ghost use Rattle.fips197.specs.KeyExpansion.{rotWord};
-ghost use Rattle.aes.specs.Columns.{mixed, diagonal};
+ghost use Rattle.aes.specs.Columns.{diagonal};
 ghost use Rattle.aes_blocks.specs.Tables.{part, Products, MixTable, InvMixedTable};
+ghost use Rattle.aes_blocks.specs.TableCipher.{tableColumn};
 use aes::mix::inv_mix_column;
-use aes::word::rot_word;
+use aes::mix::stagger;
 
 // The products with k and the bytes that follow up to 2 k: sums of two, as k is a power of two.
 fn double_products(products: &mut [u32; 256], k: usize, x: u32)
@@ -158,13 +158,6 @@ pub(crate) fn inv_mix_table(inverse: &[u8; 256], mixed: &mut [u32; 256])
     }
 }
 
-// The word turned left by a byte.
-fn turn(x: u32) -> u32
-    ensures { λ r. ⌜ leBytes 4 r ≡ rotWord (rotWord (rotWord (leBytes 4 x))) ⌝ }
-{
-    rot_word(rot_word(rot_word(x)))
-}
-
 fn entry(table: &[u32; 256], i: u32) -> u32
     requires { ⌜ i < 256 ⌝ }
     ensures { λ r. ⌜ r ≡ getD (now (table .entry)) i 0 ⌝ }
@@ -172,12 +165,14 @@ fn entry(table: &[u32; 256], i: u32) -> u32
     table[i as usize]
 }
 
-// A column of a round without its key: whatever matrix and whatever function the table has.
+// A column of a round without its key, whatever the table holds.
 pub(crate) fn table_column(table: &[u32; 256], a: u32, b: u32, c: u32, d: u32) -> u32
-    ensures { λ r. ⌜ ((q : List ℕ) (f : ℕ → ℕ) → MixTable q f 256 (now (table .entry)) → leBytes 4 r ≡ mixed q (diagonal f a b c d)) ⌝ }
+    ensures { λ r. ⌜ leBytes 4 r ≡ tableColumn (now (table .entry)) (diagonal (λ x. x) a b c d) ⌝ }
 {
-    entry(table, a % 256)
-        ^ turn(entry(table, (b >> 8) % 256))
-        ^ rot_word(rot_word(entry(table, (c >> 16) % 256)))
-        ^ rot_word(entry(table, d >> 24))
+    stagger(
+        entry(table, a % 256),
+        entry(table, d >> 24),
+        entry(table, (c >> 16) % 256),
+        entry(table, (b >> 8) % 256),
+    )
 }
