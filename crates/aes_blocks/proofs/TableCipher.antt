@@ -12,7 +12,7 @@ use Rattle.bits.specs.Words.{leWords}
 use Rattle.bits.proofs.Lists.{four, bytes-of, bytes-take}
 use Rattle.bits.proofs.Words.{words-bytes, words-take}
 use Rattle.fips197.specs.Sbox.{sbox, SboxTable}
-use Rattle.fips197.specs.Cipher.{subBytes, shiftRows, mixRow, mixBy, mixColumns, addRoundKey, round, finalRound, rounds, cipher}
+use Rattle.fips197.specs.Cipher.{subBytes, shiftRows, mixRow, mixBy, mixColumns, addRoundKey, round, rounds, cipher}
 use Rattle.fips197.specs.KeyExpansion.{roundKey}
 use Rattle.fips197.specs.Sizes.{nk, nr}
 use Rattle.fips197.specs.declared.KeySize.{KeySize}
