@@ -28,7 +28,7 @@ use Rattle.aes_blocks.specs.Tables.{MixedTable}
 use Rattle.aes_blocks.specs.TableCipher.{tableColumn, tableColumns, tableRound, tableRounds, tableCipher}
 use Rattle.aes_blocks.proofs.Columns.{column-by}
 
-module _ (t f : List ℕ) where
+module _ (t : List ℕ) where
   -- round i, after those before it
   pub rounds-more : (w : List ℕ) (i : ℕ) (s₀ : List ℕ) {s k r : List ℕ} → 1 ≤ i → s ≡ tableRounds t w (i - 1) s₀ → k ≡ roundKey w i → r ≡ tableRound t s k
       → r ≡ tableRounds t w (i + 1 - 1) s₀
@@ -38,6 +38,12 @@ module _ (t f : List ℕ) where
       let q : i ≡ i - 1 + 1 = omega arith in
       e ∙ ap₂ (tableRound t) inv (key ∙ ap (roundKey w) q) ∙ ap (λ (n : ℕ). tableRounds t w n s₀) p
 
+  rounds-take : (m : ℕ) (w : List ℕ) (n : ℕ) (s : List ℕ) → 16 * (n + 1) ≤ m → tableRounds t (take m w) n s ≡ tableRounds t w n s
+  unfolding tableRounds
+  rounds-take m w zero s h = refl
+  rounds-take m w (suc n) s h = ap₂ (tableRound t) (rounds-take m w n s (omega arith)) (roundKey-take m w (n + 1) (omega arith))
+
+module _ (t f : List ℕ) where
   pub cipher-ends : (w : List ℕ) (nr i : ℕ) (b : List ℕ) {s₀ s k₀ k r : List ℕ} → i ≡ nr → k₀ ≡ roundKey w 0 → s₀ ≡ addRoundKey b k₀
       → s ≡ tableRounds t w (i - 1) s₀ → k ≡ roundKey w nr → r ≡ tableFinalRound f s k → r ≡ tableCipher t f w nr b
   unfolding tableCipher
@@ -45,15 +51,10 @@ module _ (t f : List ℕ) where
       end ∙ ap₂ (tableFinalRound f) (inv ∙ ap₂ (λ (n : ℕ) (s : List ℕ). tableRounds t w (n - 1) s) e (first ∙ ap (addRoundKey b) key)) last
 
   -- it reads its schedule and not the words past it
-  rounds-take : (m : ℕ) (w : List ℕ) (n : ℕ) (s : List ℕ) → 16 * (n + 1) ≤ m → tableRounds t (take m w) n s ≡ tableRounds t w n s
-  unfolding tableRounds
-  rounds-take m w zero s h = refl
-  rounds-take m w (suc n) s h = ap₂ (tableRound t) (rounds-take m w n s (omega arith)) (roundKey-take m w (n + 1) (omega arith))
-
   cipher-take : (m : ℕ) (w : List ℕ) (n : ℕ) (b : List ℕ) → 16 * (n + 1) ≤ m → tableCipher t f (take m w) n b ≡ tableCipher t f w n b
   unfolding tableCipher
   cipher-take m w n b h =
-      ap₂ (tableFinalRound f) (rounds-take m w (n - 1) (addRoundKey b (roundKey (take m w) 0)) (omega arith)
+      ap₂ (tableFinalRound f) (rounds-take t m w (n - 1) (addRoundKey b (roundKey (take m w) 0)) (omega arith)
       ∙ ap (λ (k : List ℕ). tableRounds t w (n - 1) (addRoundKey b k)) (roundKey-take m w 0 (omega arith))) (roundKey-take m w n h)
 
   pub cipher-schedule : (size : KeySize) (w : List ℕ) {n : ℕ} → n ≡ nr size → (b : List ℕ)

@@ -45,7 +45,7 @@ loop-again c =
     let a = at-loop .before .before .before .args in (
       omega arith,
       omega arith,
-      rounds-more (a .mixed .now) (a .sbox .now) (leWords 4 (a .w .now)) (at-loop .loop .i) _ (at-loop .loop .inv .0) (at-loop .loop .inv .2) (c .before .round-key2 .ensures) (c .table-round .ensures),
+      rounds-more (a .mixed .now) (leWords 4 (a .w .now)) (at-loop .loop .i) _ (at-loop .loop .inv .0) (at-loop .loop .inv .2) (c .before .round-key2 .ensures) (c .table-round .ensures),
     )
 
 round-key-requires-3 : tie.Need-round-key-requires-3 Inv-loop μ-loop
