@@ -3,3 +3,4 @@ pub mod Xtime
 pub mod Staggered
 pub mod Schedule
 pub mod Rounds
+pub mod Tables

@@ -11,9 +11,8 @@ use Rattle.bits.specs.Words.{leBytes, leWords}
 use Rattle.bits.proofs.Lists.{list4}
 use Rattle.bits.proofs.Words.{getD-words, words-take}
 use Rattle.fips197.specs.KeyExpansion.{wordAt, keyExpansion}
-use Rattle.fips197.specs.Cipher.{cipher}
 use Rattle.fips197.specs.InvCipher.{invCipher}
-use Rattle.fips197.proofs.Schedule.{cipher-take, inv-cipher-take, expansion-length}
+use Rattle.fips197.proofs.Schedule.{inv-cipher-take, expansion-length}
 use Rattle.fips197.specs.Sizes.{nk, nr}
 use Rattle.aes.specs.Meaning.{keyBytes, schedule, storedSchedule}
 use Rattle.aes.specs.declared.Key.{Key}
@@ -30,14 +29,8 @@ pub rounds-few : (size : KeySize) → (1 ≤ nr size) × (nr size ≤ 14)
 rounds-few Aes128 = (lit≤ tt, lit≤ tt)
 rounds-few Aes256 = (lit≤ tt, lit≤ tt)
 
--- the cipher reads its schedule and not the words past it
+-- the inverse cipher reads its schedule and not the words past it
 module _ (size : KeySize) (w : List ℕ) {n : ℕ} (e : n ≡ nr size) (b : List ℕ) where
-  pub cipher-schedule : cipher (leWords 4 w) n b ≡ cipher (schedule size w) (nr size) b
-  cipher-schedule =
-      ap (λ (m : ℕ). cipher (leWords 4 w) m b) e
-      ∙ sym (cipher-take (4 * (4 * (nk size + 7))) (leWords 4 w) (nr size) b (omega arith))
-      ∙ ap (λ (l : List ℕ). cipher l (nr size) b) (sym (words-take 4 (4 * (nk size + 7)) w))
-
   pub inv-cipher-schedule : invCipher (leWords 4 w) n b ≡ invCipher (schedule size w) (nr size) b
   inv-cipher-schedule =
       ap (λ (m : ℕ). invCipher (leWords 4 w) m b) e

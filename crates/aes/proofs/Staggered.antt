@@ -12,7 +12,7 @@ use Rattle.bits.proofs.Words.{le-xor}
 use Rattle.bits.proofs.Xor.{xor-assoc}
 use Rattle.bits.specs.Polynomials.{multiplyBits}
 use Rattle.fips197.specs.Field.{multiply}
-use Rattle.fips197.specs.Cipher.{matrixRow, mixRow}
+use Rattle.fips197.specs.Cipher.{matrixRow}
 use Rattle.fips197.specs.InvCipher.{invMixRow}
 use Rattle.fips197.specs.KeyExpansion.{rotWord}
 use Rattle.aes.specs.Columns.{scaled, staggered, mixed}
@@ -85,10 +85,6 @@ products n x x2 x4 x8 e f g =
       by13 = sum n x (bitXor x8 x4) x (by 12) (by 1) e12 e1;
       by9 = sum n x x8 x (by 8) (by 1) e8 e1;
     }
-
-pub mixes : (x x2 : ℕ) → Times 4 2 x x2 → staggered (leBytes 4 x2) (leBytes 4 (bitXor x2 x)) (leBytes 4 x) (leBytes 4 x) ≡ mixed mixRow (leBytes 4 x)
-unfolding scaled multiplyBits
-mixes x x2 e = product 2 3 1 1 x e (sum 4 x x2 x (λ b. multiply b 2) (λ b. b) e (by-one 4 x)) (by-one 4 x) (by-one 4 x)
 
 pub inv-mixes : (x x2 x4 x8 : ℕ) → Times 4 2 x x2 → Times 4 2 x2 x4 → Times 4 2 x4 x8
     → staggered (leBytes 4 (bitXor (bitXor x8 x4) x2)) (leBytes 4 (bitXor (bitXor x8 x2) x)) (leBytes 4 (bitXor (bitXor x8 x4) x)) (leBytes 4 (bitXor x8 x))

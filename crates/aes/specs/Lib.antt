@@ -1,2 +1,3 @@
 pub mod Columns
 pub mod Meaning
+pub mod Tables

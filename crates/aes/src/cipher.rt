@@ -2,11 +2,11 @@
 ghost use mathlib.Core.Path.{_≡_};
 ghost use Prim.Native.Nat.{_≤_};
 ghost use Rattle.bits.specs.Words.{leWords};
-ghost use Rattle.fips197.specs.Sbox.{SboxTable};
-ghost use Rattle.fips197.specs.Cipher.{subBytes, shiftRows, addRoundKey, finalRound};
+ghost use Rattle.fips197.specs.Cipher.{shiftRows, addRoundKey};
 ghost use Rattle.fips197.specs.KeyExpansion.{roundKey};
 ghost use Rattle.fips197.specs.Sizes.{nr};
 ghost use Rattle.aes.specs.Meaning.{bytesOf};
+ghost use Rattle.aes.specs.Tables.{tableSubBytes, tableFinalRound};
 use crate::Block;
 use crate::word::sub_diagonal;
 use fips197::KeySize;
@@ -46,8 +46,7 @@ pub fn round_key(w: &[u32; 60], n: usize) -> Block
 
 // SubBytes, then ShiftRows: each byte is looked up at the place from which it moves.
 fn sub_shift(sbox: &[u8; 256], s: Block) -> Block
-    requires { ⌜ SboxTable (now sbox) ⌝ }
-    ensures { λ r. ⌜ bytesOf r ≡ shiftRows (subBytes (bytesOf s)) ⌝ }
+    ensures { λ r. ⌜ bytesOf r ≡ shiftRows (tableSubBytes (now (sbox .entry)) (bytesOf s)) ⌝ }
 {
     Block {
         a: sub_diagonal(sbox, s.a, s.b, s.c, s.d),
@@ -58,8 +57,7 @@ fn sub_shift(sbox: &[u8; 256], s: Block) -> Block
 }
 
 pub fn final_round(sbox: &[u8; 256], s: Block, k: Block) -> Block
-    requires { ⌜ SboxTable (now sbox) ⌝ }
-    ensures { λ r. ⌜ bytesOf r ≡ finalRound (bytesOf s) (bytesOf k) ⌝ }
+    ensures { λ r. ⌜ bytesOf r ≡ tableFinalRound (now (sbox .entry)) (bytesOf s) (bytesOf k) ⌝ }
 {
     add_round_key(sub_shift(sbox, s), k)
 }

@@ -1,7 +1,6 @@
-// MixColumns and its inverse of one column, without a table.
+// InvMixColumns of one column, without a table.
 ghost use mathlib.Core.Path.{_≡_};
 ghost use Rattle.bits.specs.Words.{leBytes};
-ghost use Rattle.fips197.specs.Cipher.{mixRow};
 ghost use Rattle.fips197.specs.InvCipher.{invMixRow};
 ghost use Rattle.aes.specs.Columns.{scaled, staggered, mixed};
 use crate::word::rot_word;
@@ -14,17 +13,10 @@ fn xtime(x: u32) -> u32
 }
 
 // The rows of the matrix are one row, turned: so are the terms of the sum.
-fn stagger(a: u32, b: u32, c: u32, d: u32) -> u32
+pub fn stagger(a: u32, b: u32, c: u32, d: u32) -> u32
     ensures { λ r. ⌜ leBytes 4 r ≡ staggered (leBytes 4 a) (leBytes 4 b) (leBytes 4 c) (leBytes 4 d) ⌝ }
 {
     a ^ rot_word(b) ^ rot_word(rot_word(c)) ^ rot_word(rot_word(rot_word(d)))
-}
-
-pub fn mix_column(x: u32) -> u32
-    ensures { λ r. ⌜ leBytes 4 r ≡ mixed mixRow (leBytes 4 x) ⌝ }
-{
-    let x2 = xtime(x);
-    stagger(x2, x2 ^ x, x, x)
 }
 
 pub fn inv_mix_column(x: u32) -> u32

@@ -11,7 +11,7 @@ ghost use Rattle.aes.specs.Meaning.{bytesOf};
 use crate::Block;
 use crate::Key;
 
-pub fn wide(x: u8) -> u32
+fn wide(x: u8) -> u32
     ensures { λ r. ⌜ (r ≡ x) × (r < 256) ⌝ }
 {
     x as u32

@@ -1,3 +1,4 @@
 pub mod Columns
 pub mod Equivalent
 pub mod Loops
+pub mod TableCipher

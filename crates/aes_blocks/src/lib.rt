@@ -4,11 +4,11 @@ ghost use Prim.Native.Nat.{_*_, _/_, _≤_};
 ghost use lib.ListN.{length};
 ghost use Rattle.bits.specs.Blocks.{mapBlocks};
 ghost use Rattle.bits.specs.Words.{leWords};
-ghost use Rattle.fips197.specs.Sbox.{SboxTable, InvSboxTable};
-ghost use Rattle.fips197.specs.Cipher.{subBytes, shiftRows, mixColumns, addRoundKey, cipher};
-ghost use Rattle.fips197.specs.Cipher as fips;
+ghost use Rattle.fips197.specs.Sbox.{InvSboxTable};
+ghost use Rattle.fips197.specs.Cipher.{shiftRows, addRoundKey};
 ghost use Rattle.fips197.specs.InvCipher.{invSubBytes, invShiftRows, invMixRow, invMixColumns, invRound, invCipher};
-ghost use Rattle.aes_blocks.specs.Tables.{Products, MixedTable, InvMixedTable, InvMixed};
+ghost use Rattle.aes_blocks.specs.Tables.{Products, InvMixedTable, InvMixed};
+ghost use Rattle.aes_blocks.specs.TableCipher.{tableColumns, tableRound, tableCipher};
 ghost use Rattle.fips197.specs.Sizes.{nr};
 ghost use Rattle.aes.specs.Meaning.{bytesOf, schedule};
 
@@ -29,10 +29,9 @@ use aes::word::put_block;
 use fips197::KeySize;
 use sbox::inverse::inverse_table;
 
-// SubBytes, ShiftRows and MixColumns at once.
+// ShiftRows, then the columns by the table, which has SubBytes and MixColumns in it.
 fn sub_shift_mix(mixed: &[u32; 256], s: Block) -> Block
-    requires { ⌜ MixedTable (now mixed) ⌝ }
-    ensures { λ r. ⌜ bytesOf r ≡ mixColumns (shiftRows (subBytes (bytesOf s))) ⌝ }
+    ensures { λ r. ⌜ bytesOf r ≡ tableColumns (now (mixed .entry)) (shiftRows (bytesOf s)) ⌝ }
 {
     Block {
         a: table_column(mixed, s.a, s.b, s.c, s.d),
@@ -43,17 +42,14 @@ fn sub_shift_mix(mixed: &[u32; 256], s: Block) -> Block
 }
 
 fn table_round(mixed: &[u32; 256], s: Block, k: Block) -> Block
-    requires { ⌜ MixedTable (now mixed) ⌝ }
-    ensures { λ r. ⌜ bytesOf r ≡ fips.round (bytesOf s) (bytesOf k) ⌝ }
+    ensures { λ r. ⌜ bytesOf r ≡ tableRound (now (mixed .entry)) (bytesOf s) (bytesOf k) ⌝ }
 {
     add_round_key(sub_shift_mix(mixed, s), k)
 }
 
 fn table_cipher(mixed: &[u32; 256], sbox: &[u8; 256], w: &[u32; 60], n: usize, b: Block) -> Block
-    requires { ⌜ MixedTable (now mixed) ⌝ }
-    requires { ⌜ SboxTable (now sbox) ⌝ }
     requires { ⌜ (1 ≤ n) × (n ≤ 14) ⌝ }
-    ensures { λ r. ⌜ bytesOf r ≡ cipher (leWords 4 (now (w .entry))) n (bytesOf b) ⌝ }
+    ensures { λ r. ⌜ bytesOf r ≡ tableCipher (now (mixed .entry)) (now (sbox .entry)) (leWords 4 (now (w .entry))) n (bytesOf b) ⌝ }
 {
     let mut s = add_round_key(b, round_key(w, 0));
     let mut i: usize = 1;
@@ -125,7 +121,7 @@ fn table_inv_cipher(
     inv_final_round(inverse, s, round_key(w, 0))
 }
 
-// One block, by lent tables.
+// One block, by lent tables, whatever they hold; with the right ones this is Cipher (`cipher-by` in proofs/TableCipher.antt).
 pub fn encrypt_block_with(
     mixed: &[u32; 256],
     sbox: &[u8; 256],
@@ -133,9 +129,7 @@ pub fn encrypt_block_with(
     w: &[u32; 60],
     b: Block,
 ) -> Block
-    requires { ⌜ MixedTable (now mixed) ⌝ }
-    requires { ⌜ SboxTable (now sbox) ⌝ }
-    ensures { λ r. ⌜ bytesOf r ≡ cipher (schedule size (now (w .entry))) (nr size) (bytesOf b) ⌝ }
+    ensures { λ r. ⌜ bytesOf r ≡ tableCipher (now (mixed .entry)) (now (sbox .entry)) (schedule size (now (w .entry))) (nr size) (bytesOf b) ⌝ }
 {
     table_cipher(mixed, sbox, w, rounds(size), b)
 }
@@ -148,9 +142,7 @@ pub fn encrypt_blocks_with(
     w: &[u32; 60],
     bytes: &mut [u8],
 )
-    requires { ⌜ MixedTable (now mixed) ⌝ }
-    requires { ⌜ SboxTable (now sbox) ⌝ }
-    ensures { λ _. ⌜ now (bytes .exit) ≡ mapBlocks (cipher (schedule size (now (w .entry))) (nr size)) (length (now (bytes .entry)) / 16) (now (bytes .entry)) ⌝ }
+    ensures { λ _. ⌜ now (bytes .exit) ≡ mapBlocks (tableCipher (now (mixed .entry)) (now (sbox .entry)) (schedule size (now (w .entry))) (nr size)) (length (now (bytes .entry)) / 16) (now (bytes .entry)) ⌝ }
 {
     let n = rounds(size);
     let count = bytes.len() / 16;

@@ -1,4 +1,4 @@
--- The key schedule has 16 (nr + 1) bytes, and the cipher of nr rounds and its inverse read no more than those of any longer list.
+-- The key schedule has 16 (nr + 1) bytes, and the inverse cipher of nr rounds reads no more than those of any longer list.
 -- Assumes nothing.
 use mathlib.Core.Path.{_≡_, refl, ap, ap₂, _∙_}
 use mathlib.Core.Bool.{Bool, true, false, cond, _&&_}
@@ -11,7 +11,7 @@ use lib.ListN.{length, getD, take, length-append}
 use lib.Seq.{getD-take}
 use Rattle.bits.specs.Bytes.{Bytes}
 use Rattle.bits.proofs.Lists.{bytes-at, bytes-append}
-use Rattle.fips197.specs.Cipher.{addRoundKey, round, finalRound, rounds, cipher}
+use Rattle.fips197.specs.Cipher.{addRoundKey}
 use Rattle.fips197.specs.InvCipher.{invRound, invFinalRound, invRounds, invCipher}
 use Rattle.fips197.specs.KeyExpansion.{wordAt, roundKey, addWords, subWord, rotWord, power, rcon, transformed, nextWord, expanded, keyExpansion}
 use Rattle.bits.proofs.Field.{timesX-lt}
@@ -29,18 +29,7 @@ pub roundKey-take : (m : ℕ) (w : List ℕ) (n : ℕ) → 16 * (n + 1) ≤ m �
 unfolding roundKey wordAt
 roundKey-take m w n h = state-ext (λ r c. getD-take m w (4 * (4 * n + c % 4) + r % 4) 0 (omega arith))
 
--- ---- the cipher and its inverse
-
-rounds-take : (m : ℕ) (w : List ℕ) (n : ℕ) (s : List ℕ) → 16 * (n + 1) ≤ m → rounds (take m w) n s ≡ rounds w n s
-unfolding rounds
-rounds-take m w zero s h = refl
-rounds-take m w (suc n) s h = ap₂ round (rounds-take m w n s (omega arith)) (roundKey-take m w (n + 1) (omega arith))
-
-pub cipher-take : (m : ℕ) (w : List ℕ) (nr : ℕ) (b : List ℕ) → 16 * (nr + 1) ≤ m → cipher (take m w) nr b ≡ cipher w nr b
-unfolding cipher
-cipher-take m w nr b h =
-    ap₂ finalRound (rounds-take m w (nr - 1) (addRoundKey b (roundKey (take m w) 0)) (omega arith)
-    ∙ ap (λ (k : List ℕ). rounds w (nr - 1) (addRoundKey b k)) (roundKey-take m w 0 (omega arith))) (roundKey-take m w nr h)
+-- ---- the inverse cipher
 
 invRounds-take : (m : ℕ) (w : List ℕ) (n : ℕ) (s : List ℕ) → 16 * (n + 1) ≤ m → invRounds (take m w) n s ≡ invRounds w n s
 unfolding invRounds

@@ -5,16 +5,16 @@ use Prim.Native.Nat.{_-_}
 use native.Mathlib.Omega.{arith}
 use borrow.Author.Needs.{needs}
 use Rattle.bits.specs.Words.{leWords}
-use Rattle.fips197.specs.Cipher.{cipher}
-use Rattle.fips197.proofs.Undo.{cipher-length}
-use Rattle.aes.proofs.Schedule.{rounds-few, cipher-schedule}
+use Rattle.aes.proofs.Schedule.{rounds-few}
+use Rattle.aes_blocks.specs.TableCipher.{tableCipher}
 use Rattle.aes_blocks.proofs.Loops.{Done, done-more, done-all}
+use Rattle.aes_blocks.proofs.TableCipher.{cipher-schedule, cipher-length}
 use Rattle.aes_blocks.proofs.encrypt_blocks_with.Statement.{statement}
 use Rattle.aes_blocks.proofs.encrypt_blocks_with.Tie as tie
 
 abbrev Inv-loop : tie.InvT-loop
 Inv-loop mixed sbox w bytes₀ n count i₀ bytes i =
-    Done (cipher (leWords 4 w) n) bytes₀ i bytes
+    Done (tableCipher mixed sbox (leWords 4 w) n) bytes₀ i bytes
 
 abbrev μ-loop : tie.MeasureT-loop
 μ-loop mixed sbox w bytes₀ n count i₀ bytes i = count - i
@@ -44,11 +44,11 @@ table-cipher-requires : tie.Need-table-cipher-requires Inv-loop μ-loop
 table-cipher-requires c κs =
     let few = rounds-few (c .before .before .before .before .before .before .args .size) in
     let e = c .before .before .before .before .rounds .ensures in
-    (c .before .before .before .before .before .before .pre .0, (c .before .before .before .before .before .before .pre .1, (omega arith, omega arith)))
+    (omega arith, omega arith)
 
 loop-again : tie.Need-loop-again Inv-loop μ-loop
 loop-again c =
-    done-more (cipher _ _) (cipher-length _ _) _ _ _ _ (omega arith) (c .before .before .before .before .before .before .before .before .loop .inv)
+    done-more (tableCipher _ _ _ _) (cipher-length _ _ _ _) _ _ _ _ (omega arith) (c .before .before .before .before .before .before .before .before .loop .inv)
     (c .before .before .before .before .before .block-at .ensures) (c .before .before .before .before .table-cipher .ensures) (c .before .before .put-block .ensures)
 
 same-length : tie.Need-same-length Inv-loop μ-loop
@@ -56,7 +56,7 @@ same-length c = search needs
 
 returns : tie.Need-returns Inv-loop μ-loop
 returns c =
-    let a = c .before .before .before .before .args in done-all (cipher-schedule (a .size) (a .w .now) (c .before .before .rounds .ensures)) (a .bytes .now) (c .before .loop .bytes) _ (omega arith) (c .before .loop .inv)
+    let a = c .before .before .before .before .args in done-all (cipher-schedule (a .mixed .now) (a .sbox .now) (a .size) (a .w .now) (c .before .before .rounds .ensures)) (a .bytes .now) (c .before .loop .bytes) _ (omega arith) (c .before .loop .inv)
 
 pub encrypt-blocks-with-spec : {M : Type 1} → statement M
 encrypt-blocks-with-spec =

@@ -1,7 +1,7 @@
 use Rattle.bits.proofs.Lists.{four}
-use Rattle.fips197.specs.Sbox.{sbox}
-use Rattle.fips197.specs.Cipher.{shiftRows, subBytes, mixRow, mixColumns, mixBy}
-use Rattle.aes.specs.Columns.{mixed}
+use Rattle.fips197.specs.Cipher.{shiftRows}
+use Rattle.aes.specs.Columns.{staggered}
+use Rattle.aes_blocks.specs.TableCipher.{tableColumn, tableColumns}
 use borrow.Author.Needs.{needs}
 use Rattle.aes_blocks.proofs.sub_shift_mix.Statement.{statement}
 use Rattle.aes_blocks.proofs.sub_shift_mix.Tie as tie
@@ -19,11 +19,9 @@ table-column-requires-4 : tie.Need-table-column-requires-4
 table-column-requires-4 c κs = search needs
 
 returns : tie.Need-returns
-unfolding mixed mixColumns mixBy shiftRows subBytes
+unfolding tableColumns tableColumn staggered shiftRows
 returns c =
-    let h = c .before .before .before .before .pre in
-    four (c .before .before .before .table-column .ensures mixRow sbox h) (c .before .before .table-column2 .ensures mixRow sbox h) (c .before .table-column3 .ensures mixRow sbox h)
-    (c .table-column4 .ensures mixRow sbox h)
+    four (c .before .before .before .table-column .ensures) (c .before .before .table-column2 .ensures) (c .before .table-column3 .ensures) (c .table-column4 .ensures)
 
 pub sub-shift-mix-spec : {M : Type 1} → statement M
 sub-shift-mix-spec =

@@ -5,14 +5,14 @@ use Prim.Native.Nat.{_-_, _≤_}
 use native.Mathlib.Omega.{arith}
 use borrow.Author.Needs.{needs}
 use Rattle.bits.specs.Words.{leWords}
-use Rattle.fips197.specs.Cipher.{rounds}
 use Rattle.aes.specs.Meaning.{bytesOf}
-use Rattle.aes.proofs.Rounds.{rounds-more, cipher-ends}
+use Rattle.aes_blocks.specs.TableCipher.{tableRounds}
+use Rattle.aes_blocks.proofs.TableCipher.{rounds-more, cipher-ends}
 use Rattle.aes_blocks.proofs.table_cipher.Statement.{statement}
 use Rattle.aes_blocks.proofs.table_cipher.Tie as tie
 
 abbrev Inv-loop : tie.InvT-loop
-Inv-loop mixed sbox w n s₀ i₀ s i = (1 ≤ i) × (i ≤ n) × (bytesOf s ≡ rounds (leWords 4 w) (i - 1) (bytesOf s₀))
+Inv-loop mixed sbox w n s₀ i₀ s i = (1 ≤ i) × (i ≤ n) × (bytesOf s ≡ tableRounds mixed (leWords 4 w) (i - 1) (bytesOf s₀))
 
 abbrev μ-loop : tie.MeasureT-loop
 μ-loop mixed sbox w n s₀ i₀ s i = n - i
@@ -24,7 +24,7 @@ add-round-key-requires : tie.Need-add-round-key-requires Inv-loop μ-loop
 add-round-key-requires c κs = search needs
 
 loop-holds : tie.Need-loop-holds Inv-loop μ-loop
-unfolding rounds
+unfolding tableRounds
 loop-holds c = (search needs, search needs, refl)
 
 round-key-requires-2 : tie.Need-round-key-requires-2 Inv-loop μ-loop
@@ -41,10 +41,11 @@ loop-less c = search needs
 
 loop-again : tie.Need-loop-again Inv-loop μ-loop
 loop-again c =
-    let at-loop = c .before .before .before in (
+    let at-loop = c .before .before .before in
+    let a = at-loop .before .before .before .args in (
       omega arith,
       omega arith,
-      rounds-more (leWords 4 (at-loop .before .before .before .args .w .now)) (at-loop .loop .i) _ (at-loop .loop .inv .0) (at-loop .loop .inv .2) (c .before .round-key2 .ensures) (c .table-round .ensures),
+      rounds-more (a .mixed .now) (leWords 4 (a .w .now)) (at-loop .loop .i) _ (at-loop .loop .inv .0) (at-loop .loop .inv .2) (c .before .round-key2 .ensures) (c .table-round .ensures),
     )
 
 round-key-requires-3 : tie.Need-round-key-requires-3 Inv-loop μ-loop
@@ -57,7 +58,7 @@ returns : tie.Need-returns Inv-loop μ-loop
 returns c =
     let at-loop = c .before .before .before in
     let st = at-loop .before .before .before in
-    cipher-ends (leWords 4 (st .args .w .now)) (st .args .n) (at-loop .loop .i) (bytesOf (st .args .b)) (omega arith)
+    cipher-ends (st .args .mixed .now) (st .args .sbox .now) (leWords 4 (st .args .w .now)) (st .args .n) (at-loop .loop .i) (bytesOf (st .args .b)) (omega arith)
     (at-loop .before .before .round-key .ensures) (at-loop .before .add-round-key .ensures) (at-loop .loop .inv .2) (c .before .round-key3 .ensures)
     (c .final-round .ensures)
 

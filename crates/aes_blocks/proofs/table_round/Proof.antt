@@ -2,8 +2,8 @@ use mathlib.Core.Path.{ap, _∙_}
 use mathlib.Core.List.{List}
 use Prim.Native.Nat.{ℕ}
 use Rattle.fips197.specs.Cipher.{addRoundKey}
-use Rattle.fips197.specs.Cipher as fips
 use Rattle.aes.specs.Meaning.{bytesOf}
+use Rattle.aes_blocks.specs.TableCipher.{tableRound}
 use borrow.Author.Needs.{needs}
 use Rattle.aes_blocks.proofs.table_round.Statement.{statement}
 use Rattle.aes_blocks.proofs.table_round.Tie as tie
@@ -15,7 +15,7 @@ add-round-key-requires : tie.Need-add-round-key-requires
 add-round-key-requires c κs = search needs
 
 returns : tie.Need-returns
-unfolding fips.round
+unfolding tableRound
 returns c = c .add-round-key .ensures ∙ ap (λ (s : List ℕ). addRoundKey s (bytesOf (c .before .before .args .k))) (c .before .sub-shift-mix .ensures)
 
 pub table-round-spec : {M : Type 1} → statement M

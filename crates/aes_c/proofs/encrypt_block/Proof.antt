@@ -1,3 +1,6 @@
+use mathlib.Core.Path.{_∙_}
+use Rattle.aes_blocks.proofs.Columns.{boxed}
+use Rattle.aes_blocks.proofs.TableCipher.{block-by}
 use borrow.Author.Needs.{needs}
 use Rattle.aes_c.proofs.encrypt_block.Statement.{statement}
 use Rattle.aes_c.proofs.encrypt_block.Tie as tie
@@ -9,12 +12,13 @@ mix-table-requires : tie.Need-mix-table-requires
 mix-table-requires c κs = search needs
 
 encrypt-block-with-requires : tie.Need-encrypt-block-with-requires
-encrypt-block-with-requires c κs =
-    let rule = c .before .before .before .before .before .sbox-table .ensures in
-    (c .before .before .mix-table .ensures, rule)
+encrypt-block-with-requires c κs = search needs
 
 returns : tie.Need-returns
-returns c = search needs
+returns c =
+    let a = c .before .before .before .before .before .before .before .args in
+    let rule = c .before .before .before .before .before .before .sbox-table .ensures in
+    c .encrypt-block-with .ensures ∙ block-by _ _ (λ i h. boxed (rule i h) (c .before .before .before .mix-table .ensures i h)) rule (a .size) (a .w .now) (a .b)
 
 pub encrypt-block-spec : {M : Type 1} → statement M
 encrypt-block-spec =

@@ -10,6 +10,7 @@ use Rattle.aes.proofs.Schedule.{schedule-stored}
 use Rattle.fips197.specs.KeyExpansion.{keyExpansion}
 use Rattle.fips197.specs.declared.Direction.{Direction}
 use Rattle.model.specs.Instructions.{aes}
+use Rattle.aes_blocks.proofs.TableCipher.{block-by}
 use borrow.Author.Needs.{needs}
 use Rattle.aeskl.proofs.cipher_block.Statement.{statement}
 use Rattle.aeskl.proofs.cipher_block.Tie as tie
@@ -35,8 +36,10 @@ scheduled c = schedule-stored (c .before .args .size) (c .before .args .key) (c 
 returns : tie.Need-returns
 unfolding encrypt
 returns c =
-    let a = c .before .before .before .before .before .args in
+    let st = c .before .before .before .before .before in
+    let a = st .args in
     c .encrypt-block-with .ensures
+    ∙ block-by _ _ (st .pre .0) (st .pre .1) (a .size) (c .before .before .before .before .expand-with .result) (a .b)
     ∙ ap (λ (w : List ℕ). cipher w (nr (a .size)) (bytesOf (a .b))) (scheduled (c .before .before .before .before))
     ∙ ap (λ (d : Direction). aes d (a .size) (keyBytes (a .size) (a .key)) (bytesOf (a .b))) (sym (c .before .before .enum-told .given .1))
 

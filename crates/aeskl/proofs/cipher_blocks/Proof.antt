@@ -1,6 +1,7 @@
 use mathlib.Core.Path.{_≡_, _∙_, sym, ap}
 use mathlib.Core.List.{List}
 use Prim.Native.Nat.{ℕ, _/_}
+use native.Mathlib.Omega.{arith}
 use lib.ListN.{length}
 use Rattle.bits.specs.Blocks.{mapBlocks}
 use Rattle.fips197.specs.Aes.{encrypt, decrypt}
@@ -12,6 +13,7 @@ use Rattle.aes.proofs.Schedule.{schedule-stored}
 use Rattle.fips197.specs.KeyExpansion.{keyExpansion}
 use Rattle.fips197.specs.declared.Direction.{Direction}
 use Rattle.model.specs.Instructions.{aes}
+use Rattle.aes_blocks.proofs.TableCipher.{blocks-by}
 use borrow.Author.Needs.{needs}
 use Rattle.aeskl.proofs.cipher_blocks.Statement.{statement}
 use Rattle.aeskl.proofs.cipher_blocks.Tie as tie
@@ -40,9 +42,11 @@ scheduled c = schedule-stored (c .before .before .args .size) (c .before .before
 returns : tie.Need-returns
 unfolding encrypt
 returns c =
-    let a = c .before .before .before .before .before .before .before .before .before .args in
+    let st = c .before .before .before .before .before .before .before .before .before in
+    let a = st .args in
     let s = a .bytes .now in
     c .before .before .encrypt-blocks-with .ensures
+    ∙ blocks-by _ _ (st .pre .0) (st .pre .1) (a .size) (c .before .before .before .before .before .before .before .expand-with .result) (length s / 16) s (λ i. omega (arith, c .before .before .before .before .before .before .before .before .slice-known .given i))
     ∙ ap (λ (w : List ℕ). mapBlocks (cipher w (nr (a .size))) (length s / 16) s) (scheduled (c .before .before .before .before .before .before .before))
     ∙ ap (λ (d : Direction). mapBlocks (aes d (a .size) (keyBytes (a .size) (a .key))) (length s / 16) s) (sym (c .before .before .before .before .before .enum-told .given .1))
 

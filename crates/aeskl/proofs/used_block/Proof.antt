@@ -7,6 +7,7 @@ use Rattle.aes.specs.Meaning.{bytesOf, keyBytes}
 use Rattle.keywrap.specs.Meaning.{opened}
 use Rattle.model.specs.Instructions.{aes}
 use Rattle.aeskl.specs.Meaning.{Used, usedBy}
+use Rattle.aes_blocks.proofs.Columns.{boxed}
 use Rattle.aeskl.proofs.Openings.{illegal-used, none-used, key-used}
 use borrow.Author.Needs.{needs}
 use Rattle.aeskl.proofs.used_block.Statement.{statement}
@@ -28,7 +29,9 @@ mix-table-requires : tie.Need-mix-table-requires
 mix-table-requires c κs = search needs
 
 unwrapped-by-requires : tie.Need-unwrapped-by-requires
-unwrapped-by-requires c κs = (c .before .before .mix-table .ensures, c .before .before .before .before .before .sbox-table .ensures)
+unwrapped-by-requires c κs =
+    let rule = c .before .before .before .before .before .sbox-table .ensures in
+    (λ i h. boxed (rule i h) (c .before .before .mix-table .ensures i h), rule)
 
 enum-known-key : tie.Need-enum-known-key
 enum-known-key c = search needs
@@ -44,7 +47,9 @@ returns-2 c =
     (sym (ap opened (c .enum-told .given .1)) ∙ c .before .before .unwrapped-by .ensures)
 
 cipher-block-requires : tie.Need-cipher-block-requires
-cipher-block-requires c κs = (c .before .before .before .before .before .before .before .before .mix-table .ensures, c .before .before .before .before .before .before .before .before .before .before .before .sbox-table .ensures)
+cipher-block-requires c κs =
+    let rule = c .before .before .before .before .before .before .before .before .before .before .before .sbox-table .ensures in
+    (λ i h. boxed (rule i h) (c .before .before .before .before .before .before .before .before .mix-table .ensures i h), rule)
 
 returns-3 : tie.Need-returns-3
 returns-3 c =

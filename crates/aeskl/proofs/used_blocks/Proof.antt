@@ -9,6 +9,7 @@ use Rattle.aes.specs.Meaning.{keyBytes}
 use Rattle.keywrap.specs.Meaning.{opened}
 use Rattle.model.specs.Instructions.{aes}
 use Rattle.aeskl.specs.Meaning.{Used, usedBy}
+use Rattle.aes_blocks.proofs.Columns.{boxed}
 use Rattle.aeskl.proofs.Openings.{illegal-used, none-used, key-used}
 use borrow.Author.Needs.{needs}
 use Rattle.aeskl.proofs.used_blocks.Statement.{statement}
@@ -30,7 +31,9 @@ mix-table-requires : tie.Need-mix-table-requires
 mix-table-requires c κs = search needs
 
 unwrapped-by-requires : tie.Need-unwrapped-by-requires
-unwrapped-by-requires c κs = (c .before .before .mix-table .ensures, c .before .before .before .before .before .sbox-table .ensures)
+unwrapped-by-requires c κs =
+    let rule = c .before .before .before .before .before .sbox-table .ensures in
+    (λ i h. boxed (rule i h) (c .before .before .mix-table .ensures i h), rule)
 
 enum-known-key : tie.Need-enum-known-key
 enum-known-key c = search needs
@@ -52,7 +55,9 @@ slice-aggregate-cipher-blocks : tie.Need-slice-aggregate-cipher-blocks
 slice-aggregate-cipher-blocks c = sym (sized (c .before .before .before .before .before .before .before .before .before .before .before .before .before .before .before))
 
 cipher-blocks-requires : tie.Need-cipher-blocks-requires
-cipher-blocks-requires c κs = (c .before .before .before .before .before .before .before .before .before .mix-table .ensures, c .before .before .before .before .before .before .before .before .before .before .before .before .sbox-table .ensures)
+cipher-blocks-requires c κs =
+    let rule = c .before .before .before .before .before .before .before .before .before .before .before .before .sbox-table .ensures in
+    (λ i h. boxed (rule i h) (c .before .before .before .before .before .before .before .before .before .mix-table .ensures i h), rule)
 
 returns-3 : tie.Need-returns-3
 returns-3 c =

@@ -1,3 +1,4 @@
+use Rattle.aes_blocks.proofs.Columns.{boxed}
 use borrow.Author.Needs.{needs}
 use Rattle.keywrap_c.proofs.unwrap.Statement.{statement}
 use Rattle.keywrap_c.proofs.unwrap.Tie as tie
@@ -11,7 +12,7 @@ mix-table-requires c κs = search needs
 unwrap-with-requires : tie.Need-unwrap-with-requires
 unwrap-with-requires c κs =
     let rule = c .before .before .before .before .before .sbox-table .ensures in
-    (c .before .before .mix-table .ensures, rule)
+    (λ i h. boxed (rule i h) (c .before .before .mix-table .ensures i h), rule)
 
 returns : tie.Need-returns
 returns c = search needs

@@ -1,8 +1,6 @@
-use mathlib.Core.Path.{_∙_}
 use Rattle.bits.proofs.Lists.{four}
-use Rattle.fips197.specs.Sbox.{sbox}
-use Rattle.fips197.specs.Cipher.{shiftRows, subBytes}
-use Rattle.aes.proofs.Words.{through-table}
+use Rattle.fips197.specs.Cipher.{shiftRows}
+use Rattle.aes.specs.Tables.{tableSubBytes}
 use borrow.Author.Needs.{needs}
 use Rattle.aes.proofs.cipher.sub_shift.Statement.{statement}
 use Rattle.aes.proofs.cipher.sub_shift.Tie as tie
@@ -20,12 +18,9 @@ sub-diagonal-requires-4 : tie.Need-sub-diagonal-requires-4
 sub-diagonal-requires-4 c κs = search needs
 
 returns : tie.Need-returns
-unfolding shiftRows subBytes
+unfolding shiftRows tableSubBytes
 returns c =
-    let st = c .before .before .before .before in
-    let via = through-table sbox (st .args .sbox .now) (st .pre) in
-    four (c .before .before .before .sub-diagonal .ensures ∙ via _ _ _ _) (c .before .before .sub-diagonal2 .ensures ∙ via _ _ _ _)
-    (c .before .sub-diagonal3 .ensures ∙ via _ _ _ _) (c .sub-diagonal4 .ensures ∙ via _ _ _ _)
+    four (c .before .before .before .sub-diagonal .ensures) (c .before .before .sub-diagonal2 .ensures) (c .before .sub-diagonal3 .ensures) (c .sub-diagonal4 .ensures)
 
 pub sub-shift-spec : {M : Type 1} → statement M
 sub-shift-spec =

@@ -4,6 +4,7 @@ use Rattle.aes.specs.Meaning.{bytesOf, keyBytes, schedule}
 use Rattle.aes.proofs.Schedule.{schedule-stored}
 use Rattle.fips197.specs.declared.KeySize.the-variants.{Aes256}
 use Rattle.keywrap.proofs.Ends.{wrap-ends}
+use Rattle.aes_blocks.proofs.Columns.{boxed}
 use borrow.Author.Needs.{needs}
 use Rattle.keywrap.proofs.siv.wrap.Statement.{statement}
 use Rattle.keywrap.proofs.siv.wrap.Tie as tie
@@ -20,12 +21,12 @@ expand-with-requires c κs = search needs
 tag-with-requires : tie.Need-tag-with-requires
 tag-with-requires c κs =
     let rule = c .before .before .before .before .before .before .before .before .sbox-table .ensures in
-    (c .before .before .before .before .before .mix-table .ensures, rule)
+    (λ i h. boxed (rule i h) (c .before .before .before .before .before .mix-table .ensures i h), rule)
 
 mask-with-requires : tie.Need-mask-with-requires
 mask-with-requires c κs =
     let rule = c .before .before .before .before .before .before .before .before .before .before .before .before .sbox-table .ensures in
-    (c .before .before .before .before .before .before .before .before .before .mix-table .ensures, rule)
+    (λ i h. boxed (rule i h) (c .before .before .before .before .before .before .before .before .before .mix-table .ensures i h), rule)
 
 returns : tie.Need-returns
 returns c =
