@@ -154,17 +154,19 @@ fn used_block(
     ensures { λ r. ⌜ usedBlock r ≡ usedBy (instructions.aes direction size) (instructions.openedFor k cpl size direction (handleBytes size h)) (bytesOf block) ⌝ }
 {
     if illegal(cpl, size, direction, h.aad) {
-        return UsedBlock { zf: true, block };
-    }
-    let sbox = sbox_table();
-    let mut mixed = [0u32; 256];
-    mix_table(&sbox, &mut mixed);
-    let Unwrapped::Key(key) = unwrapped_by(&mixed, &sbox, k, size, h) else {
-        return UsedBlock { zf: true, block };
-    };
-    UsedBlock {
-        zf: false,
-        block: cipher_block(&mixed, &sbox, direction, size, key, block),
+        UsedBlock { zf: true, block }
+    } else {
+        let sbox = sbox_table();
+        let mut mixed = [0u32; 256];
+        mix_table(&sbox, &mut mixed);
+        let Unwrapped::Key(key) = unwrapped_by(&mixed, &sbox, k, size, h) else {
+            return UsedBlock { zf: true, block };
+        };
+        let ciphered = cipher_block(&mixed, &sbox, direction, size, key, block);
+        UsedBlock {
+            zf: false,
+            block: ciphered,
+        }
     }
 }
 
@@ -179,19 +181,20 @@ fn used_blocks(
     ensures { λ r. ⌜ usedBlocks r ≡ usedBy (λ key. mapBlocks (instructions.aes direction size key) 8) (instructions.openedFor k cpl size direction (handleBytes size h)) blocks ⌝ }
 {
     if illegal(cpl, size, direction, h.aad) {
-        return UsedBlocks { zf: true, blocks };
-    }
-    let sbox = sbox_table();
-    let mut mixed = [0u32; 256];
-    mix_table(&sbox, &mut mixed);
-    let Unwrapped::Key(key) = unwrapped_by(&mixed, &sbox, k, size, h) else {
-        return UsedBlocks { zf: true, blocks };
-    };
-    let mut ciphered = blocks;
-    cipher_blocks(&mixed, &sbox, direction, size, key, &mut ciphered);
-    UsedBlocks {
-        zf: false,
-        blocks: ciphered,
+        UsedBlocks { zf: true, blocks }
+    } else {
+        let sbox = sbox_table();
+        let mut mixed = [0u32; 256];
+        mix_table(&sbox, &mut mixed);
+        let Unwrapped::Key(key) = unwrapped_by(&mixed, &sbox, k, size, h) else {
+            return UsedBlocks { zf: true, blocks };
+        };
+        let mut ciphered = blocks;
+        cipher_blocks(&mixed, &sbox, direction, size, key, &mut ciphered);
+        UsedBlocks {
+            zf: false,
+            blocks: ciphered,
+        }
     }
 }
 

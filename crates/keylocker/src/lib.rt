@@ -137,7 +137,7 @@ pub extern "C" fn keylocker_step(
     let after = t.machine;
     let answer = t.answer;
     match answer {
-        Answer::Refused(number) => number as u32,
+        Answer::Refused(refusal) => refusal as u32,
         Answer::Done => {
             write_entry(machine, processor, after);
             0

@@ -16,8 +16,8 @@ use Rattle.aeskl.proofs.used_block.Tie as tie
 illegal-requires : tie.Need-illegal-requires
 illegal-requires c κs = search needs
 
-returns : tie.Need-returns
-returns c =
+returns-2 : tie.Need-returns-2
+returns-2 c =
     let a = c .before .before .args in
     let left : Option (List ℕ) → Used = λ o. usedBy (aes (a .direction) (a .size)) o (bytesOf (a .block)) in
     illegal-used (a .k) (a .cpl) (a .size) (a .direction) (a .h) left (sym (c .before .illegal .ensures) ∙ c .if1 .taken)
@@ -39,8 +39,8 @@ enum-known-key c = search needs
 enum-told : tie.Need-enum-told
 enum-told c = search needs
 
-returns-2 : tie.Need-returns-2
-returns-2 c =
+returns : tie.Need-returns
+returns c =
     let a = c .before .before .before .before .before .before .before .before .before .before .before .args in
     let left : Option (List ℕ) → Used = λ o. usedBy (aes (a .direction) (a .size)) o (bytesOf (a .block)) in
     none-used (a .k) (a .cpl) (a .size) (a .direction) (a .h) left (sym (c .before .before .before .before .before .before .before .before .before .before .illegal .ensures) ∙ c .before .before .before .before .before .before .before .before .before .if1 .left)
@@ -65,12 +65,12 @@ used-block-spec =
     tie.close
     (tie.spec
     illegal-requires
-    returns
     sbox-table-requires
     mix-table-requires
     unwrapped-by-requires
     enum-known-key
     enum-told
-    returns-2
+    returns
     cipher-block-requires
+    returns-2
     returns-3)
