@@ -2,10 +2,10 @@
 // compiled to wide moves.
 ghost use mathlib.Core.Path.{_≡_};
 ghost use Prim.Native.Nat.{_+_, _*_, _%_, _≤_, _<_};
-ghost use lib.ListN.{length, getD, drop};
+ghost use lib.ListN.{length, drop};
 ghost use lib.Seq.{sets};
 ghost use Rattle.model.specs.Numbers.{part};
-ghost use Rattle.model.specs.Records.{processorLimit, noProcessor};
+ghost use Rattle.model.specs.Records.{processorLimit};
 ghost use Rattle.model.specs.Layout as layout;
 use model::IwKey;
 use model::Machine;
@@ -253,11 +253,10 @@ pub fn write_machine(s: &mut [u8], m: Machine)
 }
 
 // A processor's entry alone, where nothing else of the machine has changed.
-pub fn write_entry(s: &mut [u8], p: u8, m: Machine)
+pub fn write_entry(s: &mut [u8], p: u8, e: Processor)
     requires { ⌜ length (now s) ≡ layout.machineSize ⌝ }
-    ensures { λ _. ⌜ now (s .exit) ≡ sets (now (s .entry)) (2 + p % 16 * layout.entrySize) (layout.entryBytes (getD (m .processors) (p % 16) noProcessor)) ⌝ }
+    ensures { λ _. ⌜ now (s .exit) ≡ sets (now (s .entry)) (2 + p % 16 * layout.entrySize) (layout.entryBytes e) ⌝ }
 {
     let i = (p % 16) as usize;
-    let e = m.processors[i];
     put_entry(s, ENTRIES + i * ENTRY_SIZE, e);
 }

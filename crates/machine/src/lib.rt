@@ -344,7 +344,7 @@ fn valid_step(
     if number != 0 {
         return refused_step(m, number);
     }
-    let e = processor_at(m, processor);
+    let e = m.processors[(processor % 16) as usize];
     let key = executed(d, tested.linear, memory, random_of(random), e.key, cpu);
     if loads(d) {
         return loaded_step(m, processor, e, key);

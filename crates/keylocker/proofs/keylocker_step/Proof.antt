@@ -52,13 +52,22 @@ same-length-4 c = search needs
 
 returns-3 : tie.Need-returns-3
 returns-3 c =
-    let a = c .before .before .before .before .before .before .before .before .before .before .before .before .before .before .before .before .before .before .before .args in
+    let a = c .before .before .before .before .before .before .before .before .before .before .before .before .before .before .before .before .before .before .before .before .args in
     let s : StepCall = record { processor = a .processor; cpu = a .cpu .now; memory = a .memory .now; random = a .random .now; string = a .string .now } in
-    let t = c .before .before .before .before .before .before .before .before .before .step-through .result in
-    let size = c .before .before .before .before .before .before .before .before .before .before .before .before .before .if1 .left in
-    step-called (a .machine .now) s _ _ _ _ (t .machine) (t .answer) size (c .before .before .before .before .before .before .before .before .before .before .before .read-machine .ensures) (c .before .before .before .before .before .before .before .before .before .step-through .ensures)
-    (step-block (a .machine .now) s _ _ (t .machine) (t .answer) size (c .before .before .before .before .before .before .before .before .before .before .before .read-machine .ensures) (c .before .before .before .before .before .before .before .before .before .step-through .ensures) (c .before .before .before .before .enum-told .given .1) _
+    let t = c .before .before .before .before .before .before .before .before .before .before .step-through .result in
+    let size = c .before .before .before .before .before .before .before .before .before .before .before .before .before .before .if1 .left in
+    step-called (a .machine .now) s _ _ _ _ (t .machine) (t .answer) size (c .before .before .before .before .before .before .before .before .before .before .before .before .read-machine .ensures) (c .before .before .before .before .before .before .before .before .before .before .step-through .ensures)
+    (step-block (a .machine .now) s _ _ (t .machine) (t .answer) size (c .before .before .before .before .before .before .before .before .before .before .before .before .read-machine .ensures) (c .before .before .before .before .before .before .before .before .before .before .step-through .ensures) (c .before .before .before .before .before .enum-told .given .1) _
     (c .before .before .write-entry .ensures))
+
+cast-e : tie.Need-cast-e
+cast-e c = search needs
+
+mul-e : tie.Need-mul-e
+mul-e c = search needs
+
+element-copy-out-e : tie.Need-element-copy-out-e
+element-copy-out-e c = search needs
 
 pub keylocker-step-spec : {M : Type 1} → statement M
 keylocker-step-spec =
@@ -70,6 +79,9 @@ keylocker-step-spec =
     enum-known-answer
     cast-result
     enum-told
+    cast-e
+    mul-e
+    element-copy-out-e
     write-entry-requires
     same-length
     same-length-2
