@@ -139,8 +139,7 @@ pub extern "C" fn keylocker_step(
     match answer {
         Answer::Refused(refusal) => refusal as u32,
         Answer::Done => {
-            let e = after.processors[(processor % 16) as usize];
-            write_entry(machine, processor, e);
+            write_entry(machine, processor, machine::processor_at(after, processor));
             0
         }
     }
