@@ -139,7 +139,8 @@ pub extern "C" fn keylocker_step(
     match answer {
         Answer::Refused(refusal) => refusal as u32,
         Answer::Done => {
-            write_entry(machine, processor, machine::processor_at(after, processor));
+            let e = after.processors[(processor % 16) as usize];
+            write_entry(machine, processor, e);
             0
         }
     }

@@ -127,29 +127,11 @@ fn done(m: Machine) -> Outcome
     }
 }
 
-// Processor p; every caller's p is below the count, so that the remainder is p itself. Written out: an index that is known only when it runs would
-// have the compiler keep the whole machine in memory, copy by copy.
-pub fn processor_at(m: Machine, p: u8) -> Processor
+// Processor p; every caller's p is below the count, so that the remainder is p itself.
+fn processor_at(m: Machine, p: u8) -> Processor
     ensures { λ r. ⌜ r ≡ getD (m .processors) (p % 16) noProcessor ⌝ }
 {
-    match p % 16 {
-        0 => m.processors[0],
-        1 => m.processors[1],
-        2 => m.processors[2],
-        3 => m.processors[3],
-        4 => m.processors[4],
-        5 => m.processors[5],
-        6 => m.processors[6],
-        7 => m.processors[7],
-        8 => m.processors[8],
-        9 => m.processors[9],
-        10 => m.processors[10],
-        11 => m.processors[11],
-        12 => m.processors[12],
-        13 => m.processors[13],
-        14 => m.processors[14],
-        _ => m.processors[15],
-    }
+    m.processors[(p % 16) as usize]
 }
 
 fn with_processor(m: Machine, p: u8, e: Processor) -> Machine
@@ -362,7 +344,7 @@ fn valid_step(
     if number != 0 {
         return refused_step(m, number);
     }
-    let e = processor_at(m, processor);
+    let e = m.processors[(processor % 16) as usize];
     let key = executed(d, tested.linear, memory, random_of(random), e.key, cpu);
     if loads(d) {
         return loaded_step(m, processor, e, key);

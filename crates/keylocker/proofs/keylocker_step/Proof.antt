@@ -1,8 +1,4 @@
-use mathlib.Core.Path.{_∙_, sym, ap}
-use Prim.Native.Nat.{_+_, _*_, _%_}
-use lib.Seq.{sets}
-use Rattle.model.specs.Layout.{entrySize, entryBytes}
-use Rattle.model.specs.declared.Processor.{Processor}
+use mathlib.Core.Path.{sym, ap}
 use Rattle.model.specs.Calls.{StepCall}
 use Rattle.keylocker.specs.Meaning.{answered}
 use Rattle.keylocker.proofs.Finishing.{step-short, step-called, step-block}
@@ -62,10 +58,16 @@ returns-3 c =
     let size = c .before .before .before .before .before .before .before .before .before .before .before .before .before .before .if1 .left in
     step-called (a .machine .now) s _ _ _ _ (t .machine) (t .answer) size (c .before .before .before .before .before .before .before .before .before .before .before .before .read-machine .ensures) (c .before .before .before .before .before .before .before .before .before .before .step-through .ensures)
     (step-block (a .machine .now) s _ _ (t .machine) (t .answer) size (c .before .before .before .before .before .before .before .before .before .before .before .before .read-machine .ensures) (c .before .before .before .before .before .before .before .before .before .before .step-through .ensures) (c .before .before .before .before .before .enum-told .given .1) _
-    (c .before .before .write-entry .ensures ∙ ap (λ (e : Processor). sets (a .machine .now) (2 + a .processor % 16 * entrySize) (entryBytes e)) (c .before .before .before .processor-at .ensures)))
+    (c .before .before .write-entry .ensures))
 
-processor-at-requires : tie.Need-processor-at-requires
-processor-at-requires c κs = search needs
+cast-e : tie.Need-cast-e
+cast-e c = search needs
+
+mul-e : tie.Need-mul-e
+mul-e c = search needs
+
+element-copy-out-e : tie.Need-element-copy-out-e
+element-copy-out-e c = search needs
 
 pub keylocker-step-spec : {M : Type 1} → statement M
 keylocker-step-spec =
@@ -77,7 +79,9 @@ keylocker-step-spec =
     enum-known-answer
     cast-result
     enum-told
-    processor-at-requires
+    cast-e
+    mul-e
+    element-copy-out-e
     write-entry-requires
     same-length
     same-length-2

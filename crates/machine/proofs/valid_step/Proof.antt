@@ -1,6 +1,6 @@
 use mathlib.Core.Path.{_∙_, refl, sym, ap, subst}
-use Prim.Native.Nat.{ℕ, _+_, _≤_}
-use lib.ListN.{length}
+use Prim.Native.Nat.{ℕ, _+_, _%_, _≤_}
+use lib.ListN.{length, getD}
 use Rattle.isa.specs.declared.Decoded.{Decoded}
 use Rattle.isa.specs.Ranges.{handleLength}
 use Rattle.loadiwkey.specs.Meaning.{randomData}
@@ -9,6 +9,7 @@ use Rattle.model.specs.Calls.{StepCall}
 use Rattle.model.specs.Calls as calls
 use Rattle.model.specs.Execution.{viewOf}
 use Rattle.model.specs.History.{loadIn}
+use Rattle.model.specs.Records.{noProcessor}
 use Rattle.model.proofs.Demand3.{handle-fits}
 use Rattle.model.proofs.Refusals.{cpu-length, random-length}
 use Rattle.refusals.specs.Parts.{handleLinear}
@@ -37,31 +38,31 @@ returns : tie.Need-returns
 returns c =
     let a = c .before .before .before .before .before .before .before .before .before .args in
     let s : StepCall = record { processor = a .processor; cpu = a .cpu .now; memory = a .memory .now; random = a .random .now; string = a .string .now } in
-    let told = step-told (viewOf (a .m)) s (c .before .before .step-refusal .result .number) _ (ap (λ (t : Tested). t .number) (c .before .before .step-refusal .ensures)) (c .before .before .before .before .decode .ensures) in
+    let told = step-told (viewOf (a .t1)) s (c .before .before .step-refusal .result .number) _ (ap (λ (t : Tested). t .number) (c .before .before .step-refusal .ensures)) (c .before .before .before .before .decode .ensures) in
     let n = c .before .before .step-refusal .result .number in
     ap (λ (x : Stepped). left (x .answer) (x .machine) (a .cpu .now)) (c .refused-step .ensures)
-    ∙ step-refused (a .m) s n (c .before .if1 .taken) (stopped (a .m) (calls.step s) (c .before .before .before .before .before .before .before .before .before .pre) n (sym told) (c .before .if1 .taken))
+    ∙ step-refused (a .t1) s n (c .before .if1 .taken) (stopped (a .t1) (calls.step s) (c .before .before .before .before .before .before .before .before .before .pre) n (sym told) (c .before .if1 .taken))
 
 random-of-requires : tie.Need-random-of-requires
 random-of-requires c κs =
     let a = c .before .before .before .before .before .before .before .before .before .args in
     let s : StepCall = record { processor = a .processor; cpu = a .cpu .now; memory = a .memory .now; random = a .random .now; string = a .string .now } in
-    let told = step-told (viewOf (a .m)) s (c .before .before .step-refusal .result .number) _ (ap (λ (t : Tested). t .number) (c .before .before .step-refusal .ensures)) (c .before .before .before .before .decode .ensures) in
-    random-length (viewOf (a .m)) s (sym told ∙ c .before .if1 .left)
+    let told = step-told (viewOf (a .t1)) s (c .before .before .step-refusal .result .number) _ (ap (λ (t : Tested). t .number) (c .before .before .step-refusal .ensures)) (c .before .before .before .before .decode .ensures) in
+    random-length (viewOf (a .t1)) s (sym told ∙ c .before .if1 .left)
 
 executed-requires : tie.Need-executed-requires
 executed-requires c κs =
     let a = c .before .before .before .before .before .before .before .before .before .before .before .args in
     let s : StepCall = record { processor = a .processor; cpu = a .cpu .now; memory = a .memory .now; random = a .random .now; string = a .string .now } in
-    let told = step-told (viewOf (a .m)) s (c .before .before .before .before .step-refusal .result .number) _ (ap (λ (t : Tested). t .number) (c .before .before .before .before .step-refusal .ensures)) (c .before .before .before .before .before .before .decode .ensures) in
+    let told = step-told (viewOf (a .t1)) s (c .before .before .before .before .step-refusal .result .number) _ (ap (λ (t : Tested). t .number) (c .before .before .before .before .step-refusal .ensures)) (c .before .before .before .before .before .before .decode .ensures) in
     let accepted = sym told ∙ c .before .before .before .if1 .left in
     let t = c .before .before .before .before .step-refusal .result in (
-      cpu-length (viewOf (a .m)) s accepted,
+      cpu-length (viewOf (a .t1)) s accepted,
       λ what lock bytes q f r.
           let at = placed t _ _ (a .cpu .now) what bytes f (c .before .before .before .before .step-refusal .ensures) (c .before .before .before .if1 .left) (ap (handleLinear (a .cpu .now)) q) r in (
             at,
             subst (λ (n : ℕ). n + handleLength (f .size) ≤ length (a .memory .now)) (sym at)
-                (handle-fits (viewOf (a .m)) s accepted what lock bytes f (sym (c .before .before .before .before .before .before .decode .ensures) ∙ q) r),
+                (handle-fits (viewOf (a .t1)) s accepted what lock bytes f (sym (c .before .before .before .before .before .before .decode .ensures) ∙ q) r),
           ),
     )
 
@@ -78,12 +79,12 @@ returns-2 : tie.Need-returns-2
 returns-2 c =
     let a = c .before .before .before .before .before .before .before .before .before .before .before .before .before .before .before .before .before .args in
     let s : StepCall = record { processor = a .processor; cpu = a .cpu .now; memory = a .memory .now; random = a .random .now; string = a .string .now } in
-    let told = step-told (viewOf (a .m)) s (c .before .before .before .before .before .before .before .before .before .before .step-refusal .result .number) _ (ap (λ (t : Tested). t .number) (c .before .before .before .before .before .before .before .before .before .before .step-refusal .ensures)) (c .before .before .before .before .before .before .before .before .before .before .before .before .decode .ensures) in
-    let e = c .before .before .before .before .before .before .before .before .processor-at .result in
+    let told = step-told (viewOf (a .t1)) s (c .before .before .before .before .before .before .before .before .before .before .step-refusal .result .number) _ (ap (λ (t : Tested). t .number) (c .before .before .before .before .before .before .before .before .before .before .step-refusal .ensures)) (c .before .before .before .before .before .before .before .before .before .before .before .before .decode .ensures) in
+    let e = getD (a .t1 .processors) (a .processor % 16) noProcessor in
     let d = c .before .before .before .before .before .before .before .before .before .before .before .before .decode .result in
     let x = loading.executed (c .before .before .before .before .before .executed .result) (c .before .before .before .before .before .executed .last .1 .1 .1 .1 .1 .0) in
     ap (λ (y : Stepped). left (y .answer) (y .machine) (x .cpu)) (c .loaded-step .ensures)
-    ∙ step-done (a .m) (c .before .before .before .before .before .before .before .before .before .before .before .before .before .before .before .before .before .pre) s (sym told ∙ c .before .before .before .before .before .before .before .before .before .if1 .left) e (c .before .before .before .before .before .before .before .before .processor-at .ensures) x
+    ∙ step-done (a .t1) (c .before .before .before .before .before .before .before .before .before .before .before .before .before .before .before .before .before .pre) s (sym told ∙ c .before .before .before .before .before .before .before .before .before .if1 .left) e refl x
     (c .before .before .before .before .before .executed .ensures
     ∙ executed-as s (e .key) (a .cpu .now) (randomData (c .before .before .before .before .before .before .before .random-of .result)) d refl (c .before .before .before .before .before .before .before .random-of .ensures) (c .before .before .before .before .before .before .before .before .before .before .before .before .decode .ensures))
 
@@ -97,18 +98,24 @@ returns-3 : tie.Need-returns-3
 returns-3 c =
     let a = c .before .before .before .before .before .before .before .before .before .before .before .before .before .before .before .before .before .args in
     let s : StepCall = record { processor = a .processor; cpu = a .cpu .now; memory = a .memory .now; random = a .random .now; string = a .string .now } in
-    let told = step-told (viewOf (a .m)) s (c .before .before .before .before .before .before .before .before .before .before .step-refusal .result .number) _ (ap (λ (t : Tested). t .number) (c .before .before .before .before .before .before .before .before .before .before .step-refusal .ensures)) (c .before .before .before .before .before .before .before .before .before .before .before .before .decode .ensures) in
-    let e = c .before .before .before .before .before .before .before .before .processor-at .result in
+    let told = step-told (viewOf (a .t1)) s (c .before .before .before .before .before .before .before .before .before .before .step-refusal .result .number) _ (ap (λ (t : Tested). t .number) (c .before .before .before .before .before .before .before .before .before .before .step-refusal .ensures)) (c .before .before .before .before .before .before .before .before .before .before .before .before .decode .ensures) in
+    let e = getD (a .t1 .processors) (a .processor % 16) noProcessor in
     let d = c .before .before .before .before .before .before .before .before .before .before .before .before .decode .result in
     let x = loading.executed (c .before .before .before .before .before .executed .result) (c .before .before .before .before .before .executed .last .1 .1 .1 .1 .1 .0) in
     ap (λ (y : Stepped). left (y .answer) (y .machine) (x .cpu)) (c .kept-step .ensures)
-    ∙ step-kept (a .m) (c .before .before .before .before .before .before .before .before .before .before .before .before .before .before .before .before .before .pre) s (sym told ∙ c .before .before .before .before .before .before .before .before .before .if1 .left) e (c .before .before .before .before .before .before .before .before .processor-at .ensures) x
+    ∙ step-kept (a .t1) (c .before .before .before .before .before .before .before .before .before .before .before .before .before .before .before .before .before .pre) s (sym told ∙ c .before .before .before .before .before .before .before .before .before .if1 .left) e refl x
     (c .before .before .before .before .before .executed .ensures
     ∙ executed-as s (e .key) (a .cpu .now) (randomData (c .before .before .before .before .before .before .before .random-of .result)) d refl (c .before .before .before .before .before .before .before .random-of .ensures) (c .before .before .before .before .before .before .before .before .before .before .before .before .decode .ensures))
     (ap (λ (y : Decoded). isLoad (loadIn y)) (sym (c .before .before .before .before .before .before .before .before .before .before .before .before .decode .ensures)) ∙ sym (c .before .before .loads .ensures) ∙ c .before .if2 .left)
 
-processor-at-requires : tie.Need-processor-at-requires
-processor-at-requires c κs = search needs
+cast-e : tie.Need-cast-e
+cast-e c = search needs
+
+mul-e : tie.Need-mul-e
+mul-e c = search needs
+
+element-copy-out-e : tie.Need-element-copy-out-e
+element-copy-out-e c = search needs
 
 pub valid-step-spec : {M : Type 1} → statement M
 valid-step-spec =
@@ -119,7 +126,9 @@ valid-step-spec =
     refused-step-requires
     same-length
     returns
-    processor-at-requires
+    cast-e
+    mul-e
+    element-copy-out-e
     random-of-requires
     executed-requires
     loads-requires
