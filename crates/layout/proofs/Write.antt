@@ -3,15 +3,15 @@
 use mathlib.Core.Path.{_≡_, _∙_, refl, sym, ap}
 use mathlib.Core.List.{List, [], _∷_, _++_, append-nil, append-assoc}
 use Prim.Native.Nat.{ℕ, suc, _+_, _-_, _*_, _<_, _≤_}
-use native.Mathlib.Nat.{zero-add, le-refl}
 use native.Mathlib.Numerals.{add-one}
 use native.Mathlib.Omega.{arith}
-use lib.ListN.{length, getD, set, take, length-append, length-set, drop-of-length-le}
-use lib.Seq.{sets, sets-eq, take-all, take-suc, length-take-le}
+use lib.ListN.{length, getD, set, take, length-append, length-set}
+use lib.Seq.{sets, take-all, take-suc, length-take-le}
 use Rattle.bits.proofs.Lists.{sets-append}
 use Rattle.model.specs.Records.{processorLimit}
 use Rattle.model.specs.Layout.{iwKeySize, entrySize, slotSize, platformSize, machineSize, keyBytes, entryBytes, entriesBytes, slotBytes, platformBytes, machineBytes}
 use Rattle.model.specs.declared.IwKey.{IwKey}
+use Rattle.model.proofs.InPlace.{sets-whole}
 use Rattle.model.specs.declared.Processor.{Processor}
 use Rattle.model.specs.declared.Slot.{Slot}
 use Rattle.model.specs.declared.Platform.{Platform}
@@ -25,13 +25,6 @@ then o at n v w e p =
     ap (λ (t : List ℕ). sets t (at + n) w) p
     ∙ ap (λ (k : ℕ). sets (sets o at v) (at + k) w) (sym e)
     ∙ sym (sets-append o at v w)
-
--- a run as long as the list
-whole : (o w : List ℕ) → length w ≡ length o → sets o 0 w ≡ w
-whole o w e =
-    sets-eq w o 0 (rw (zero-add, e) (le-refl _))
-    ∙ ap (λ (t : List ℕ). w ++ t) (drop-of-length-le o {i = 0 + length w} (rw (zero-add, e) (le-refl _)))
-    ∙ append-nil w
 
 -- one byte more
 byte-written : (o l a : List ℕ) (at i : ℕ) → i < length a → l ≡ sets o at (take i a)
@@ -152,4 +145,4 @@ machine-written o m {l} {n} h a b p q =
     let f = platformBytes (m .platform) in
     let k : length (z ++ (e ++ f)) ≡ length o =
     ap (λ (n : ℕ). suc (suc n)) (length-append e f) ∙ omega arith in
-    q ∙ then (sets o 0 z) 2 (processorLimit * entrySize) e f a p ∙ then o 0 2 z (e ++ f) refl refl ∙ whole o (z ++ (e ++ f)) k
+    q ∙ then (sets o 0 z) 2 (processorLimit * entrySize) e f a p ∙ then o 0 2 z (e ++ f) refl refl ∙ sets-whole o (z ++ (e ++ f)) k

@@ -2,14 +2,13 @@
 -- Assumes nothing.
 use mathlib.Core.Path.{_≡_, refl, sym, ap, _∙_}
 use mathlib.Core.List.{List, [], _∷_, _++_, append-nil}
-use mathlib.Core.Option.{some}
 use Prim.Native.Nat.{ℕ, zero, suc, _+_, _*_, _≤_, _<_}
-use native.Mathlib.Nat.{zero-add, suc-add, le-refl, not-suc-le-zero, le-of-suc-le-suc}
+use native.Mathlib.Nat.{zero-add, suc-add, not-suc-le-zero, le-of-suc-le-suc}
 use native.Mathlib.Omega.{arith}
 use lib.ListN.{length, getD, set, length-set, drop-of-length-le}
 use lib.Seq.{sets, sets-eq, set-append-left, getD-set-same}
 use Rattle.model.specs.Calls.{StepCall, step}
-use Rattle.model.specs.Execution.{viewOf, perform, numberOf, call}
+use Rattle.model.specs.Execution.{viewOf, perform, call}
 use Rattle.model.specs.Instructions.{executed}
 use Rattle.model.specs.Records.{processorLimit, noProcessor, processorAt, withKey, withProcessor}
 use Rattle.model.specs.Layout.{entrySize, machineSize, entryBytes, entriesBytes, platformBytes, machineBytes, machineAt, ShapedKey, ShapedEntries, Shaped}
@@ -39,7 +38,7 @@ sets-back (x ∷ l) r i v =
     ap (λ (k : ℕ). sets (x ∷ (l ++ r)) k v) (suc-add (length l) i) ∙ sets-tail x (l ++ r) (length l + i) v
     ∙ ap (λ (t : List ℕ). x ∷ t) (sets-back l r i v)
 
-sets-whole : (l v : List ℕ) → length v ≡ length l → sets l 0 v ≡ v
+pub sets-whole : (l v : List ℕ) → length v ≡ length l → sets l 0 v ≡ v
 sets-whole l v e =
     let h : 0 + length v ≤ length l = omega arith in
     let k : length l ≤ 0 + length v = omega arith in

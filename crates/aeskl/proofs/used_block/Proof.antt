@@ -3,7 +3,7 @@ use mathlib.Core.Bool.{false}
 use mathlib.Core.List.{List}
 use mathlib.Core.Option.{Option}
 use Prim.Native.Nat.{ℕ}
-use Rattle.aes.specs.Meaning.{bytesOf, keyBytes}
+use Rattle.aes.specs.Meaning.{bytesOf}
 use Rattle.keywrap.specs.Meaning.{opened}
 use Rattle.model.specs.Instructions.{aes}
 use Rattle.aeskl.specs.Meaning.{Used, usedBy}

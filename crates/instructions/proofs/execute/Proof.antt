@@ -1,5 +1,4 @@
 use mathlib.Core.Path.{_∙_, ap}
-use Rattle.model.specs.Instructions as instructions
 use Rattle.instructions.specs.Meaning.{passed}
 use borrow.Author.Needs.{needs}
 use Rattle.instructions.proofs.execute.Statement.{statement}
