@@ -131,13 +131,13 @@ fn cipher_blocks(
 // ---- a use, over its blocks by value
 
 // A block after a use, and ZF.
-pub struct UsedBlock {
+pub(crate) struct UsedBlock {
     pub zf: bool,
     pub block: Block,
 }
 
 // XMM0 to XMM7 after a use, and ZF.
-pub struct UsedBlocks {
+pub(crate) struct UsedBlocks {
     pub zf: bool,
     pub blocks: [u8; 128],
 }
