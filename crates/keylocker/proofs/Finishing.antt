@@ -3,12 +3,12 @@
 use mathlib.Core.Path.{_≡_, _∙_, refl, sym, ap, ap₂, subst}
 use mathlib.Core.Bool.{Bool, true, false, cond}
 use mathlib.Core.List.{List, []}
-use Prim.Native.Nat.{ℕ, _+_, _*_, _%_}
+use Prim.Native.Nat.{ℕ, _+_, _*_, _%_, _<_}
 use native.Mathlib.Nat.{suc-ne-zero}
 use native.Mathlib.Omega.{arith}
 use lib.Dec.{eqb}
-use lib.ListN.{length, getD}
-use lib.Seq.{sets}
+use lib.ListN.{length}
+use lib.Seq.{sets, getD-set-same}
 use borrow.Author.Tests.{eqb-true, eqb-false, eq-eqb, ne-eqb}
 use Rattle.bits.proofs.Choice.{cond-on, cond-off, on-cond}
 use Rattle.model.specs.Calls.{PowerOn, StepCall, ReadCall, Call, step, read, write, settle, sleep, reset}
@@ -17,13 +17,15 @@ use Rattle.model.specs.Execution.{powerOnRefusal, refused, perform, numberOf, c
 use Rattle.model.specs.Layout.{entrySize, machineSize, entryBytes, machineBytes, machineAt}
 use Rattle.model.specs.Lent.{Lent, into, wrongSize, powerOnLent, callLent}
 use Rattle.model.specs.declared.Machine.{Machine}
-use Rattle.model.proofs.Bytes.{bytes-at}
+use Rattle.model.specs.declared.Processor.{Processor}
+use Rattle.model.proofs.Bytes.{bytes-at, machine-shaped}
 use Rattle.model.proofs.Frames.{by-number, read-kept}
 use Rattle.model.proofs.InPlace.{processor-few, step-entry}
-use Rattle.model.specs.Records.{noProcessor}
-use Rattle.machine.specs.Meaning.{numberOf as numberIn, answerOf, outcomeOf, Left, left, leftOf}
-use Rattle.machine.specs.declared.Answer.{Answer}
-use Rattle.machine.specs.declared.Answer.the-variants.{Done, Refused}
+use Rattle.model.specs.Records.{noProcessor, processorAt, withProcessor}
+use Rattle.step.specs.Meaning.{numberOf as numberIn, answerOf, Left, left, leftOf}
+use Rattle.machine.specs.Meaning.{outcomeOf}
+use Rattle.step.specs.declared.Answer.{Answer}
+use Rattle.step.specs.declared.Answer.the-variants.{Done, Refused}
 use Rattle.machine.specs.declared.Outcome.{Outcome}
 use Rattle.keylocker.specs.Meaning.{called, calledOf, answered, finished, readAnswered}
 use Rattle.keylocker.specs.Promises.{answer, gave, PowerOnPromise, StepPromise, ReadPromise}
@@ -230,16 +232,22 @@ module _ (block : List ℕ) (s : StepCall) where
       ((λ j. e j .cpu) ∙ sym (ap (λ (x : Lent). x .answer .cpu) (cond-on here _ _))) refl
 
   -- it changes one entry of the block: to write that is to write the machine
-  pub step-block : (cpu : List ℕ) (m n : Machine) (a : Answer) → length block ≡ machineSize → m ≡ machineAt block → left a n cpu ≡ leftOf (call m (step s))
-      → a ≡ Done → (after : List ℕ)
-      → after ≡ sets block (2 + s .processor % 16 * entrySize) (entryBytes (getD (n .processors) (s .processor % 16) noProcessor))
-      → called 0 after ≡ answered block n a
-  step-block cpu m n a h w d f after e =
-      let o = call (machineAt block) (step s) in
+  pub step-block : (cpu : List ℕ) (m : Machine) (e : Processor) (a : Answer) → length block ≡ machineSize → m ≡ machineAt block
+      → left a (withProcessor (s .processor % 16) e m) cpu ≡ leftOf (call m (step s)) → a ≡ Done → (after : List ℕ)
+      → after ≡ sets block (2 + s .processor % 16 * entrySize) (entryBytes e) → called 0 after ≡ answered block (withProcessor (s .processor % 16) e m) a
+  step-block cpu m e a h w d f after q =
+      let b = machineAt block in
+      let o = call b (step s) in
+      let i = s .processor % 16 in
       let g = d ∙ ap (λ (x : Machine). leftOf (call x (step s))) w in
       let accepted : o .answer .number ≡ 0 = sym (number-in (o .answer .number)) ∙ ap numberIn (sym (ap (λ (x : Left). x .answer) g) ∙ f) in
-      let few = processor-few block h s accepted in
-      let p : s .processor % 16 ≡ s .processor = omega (arith, few) in
-      let same : n ≡ o .machine = ap (λ (x : Left). x .machine) g in
-      let written : Machine → ℕ → List ℕ = λ x k. sets block (2 + k * entrySize) (entryBytes (getD (x .processors) k noProcessor)) in
-      (λ j. called 0 ((e ∙ ap₂ written same p ∙ step-entry block h s accepted ∙ ap machineBytes (sym same)) j)) ∙ ap (answered block n) (sym f)
+      let few = processor-few b s accepted in
+      let shaped = machine-shaped block h .count in
+      let p : i ≡ s .processor = omega (arith, few) in
+      let same : withProcessor i e m ≡ o .machine = ap (λ (x : Left). x .machine) g in
+      let here : i < length (b .processors) = omega arith in
+      let entry : e ≡ processorAt (o .machine) i =
+      sym (getD-set-same (b .processors) i e noProcessor here) ∙ ap (λ (x : Machine). processorAt x i) (ap (withProcessor i e) (sym w) ∙ same) in
+      let written : Processor → ℕ → List ℕ = λ x k. sets block (2 + k * entrySize) (entryBytes x) in
+      (λ j. called 0 ((q ∙ ap₂ written (entry ∙ ap (processorAt (o .machine)) p) p ∙ step-entry block h s accepted ∙ ap machineBytes (sym same)) j))
+      ∙ ap (answered block (withProcessor i e m)) (sym f)

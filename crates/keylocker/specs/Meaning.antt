@@ -5,9 +5,9 @@ use Prim.Native.Nat.{ℕ}
 use Rattle.model.specs.Lent.{Lent}
 use Rattle.model.specs.Layout.{machineBytes}
 use Rattle.model.specs.declared.Machine.{Machine}
-use Rattle.machine.specs.Meaning.{numberOf}
-use Rattle.machine.specs.declared.Answer.{Answer}
-use Rattle.machine.specs.declared.Answer.the-variants.{Done, Refused}
+use Rattle.step.specs.Meaning.{numberOf}
+use Rattle.step.specs.declared.Answer.{Answer}
+use Rattle.step.specs.declared.Answer.the-variants.{Done, Refused}
 use Rattle.machine.specs.declared.Outcome.{Outcome}
 
 -- the number that is returned, and the machine's bytes at exit

@@ -7,9 +7,8 @@ ghost use Rattle.keylocker.specs.Promises.{PowerOnPromise, StepPromise, 
 use layout::read_machine;
 use layout::write_entry;
 use layout::write_machine;
-use lent::step_through;
-use machine::Answer;
 use machine::Outcome;
+use step::Answer;
 
 const MACHINE_SIZE: usize = 924;
 
@@ -133,13 +132,12 @@ pub extern "C" fn keylocker_step(
         return 1;
     }
     let m = read_machine(machine);
-    let t = step_through(m, processor, cpu, memory, random, string);
-    let after = t.machine;
-    let answer = t.answer;
+    let x = step::step(m, processor, cpu, memory, random, string);
+    let e = x.processor;
+    let answer = x.answer;
     match answer {
         Answer::Refused(refusal) => refusal as u32,
         Answer::Done => {
-            let e = after.processors[(processor % 16) as usize];
             write_entry(machine, processor, e);
             0
         }

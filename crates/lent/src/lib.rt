@@ -4,10 +4,10 @@
 ghost use mathlib.Core.Path.{_≡_};
 ghost use Rattle.model.specs.Calls.{step};
 ghost use Rattle.model.specs.Execution as execution;
-ghost use Rattle.machine.specs.Meaning.{left, leftOf};
-use machine::Answer;
+ghost use Rattle.step.specs.Meaning.{left, leftOf};
 use machine::Stepped;
 use model::Machine;
+use step::Answer;
 
 pub fn step_lent(
     m: &mut Machine,

@@ -1,4 +1,4 @@
--- The ways that a call goes, by value: refusal 1, another refusal, or performed.
+-- Calls by value that are refused, and those with few operands.
 -- Assumes nothing.
 use mathlib.Core.Path.{_≡_, _∙_, refl, sym, ap}
 use mathlib.Core.Bool.{Bool, true, false, cond, not, _&&_}
@@ -6,20 +6,21 @@ use mathlib.Core.List.{[]}
 use Prim.Native.Nat.{ℕ, _≤_, _<_}
 use lib.Dec.{eqb, leb}
 use lib.ListN.{replicate}
-use borrow.Author.Tests.{ne-eqb, not-true, not-false, le-leb, lt-leb}
+use borrow.Author.Tests.{ne-eqb, le-leb, lt-leb}
 use native.Mathlib.Nat.{suc-ne-zero}
 use Rattle.bits.proofs.Choice.{cond-on, cond-off}
 use Rattle.model.specs.Calls as calls
 use Rattle.model.specs.Calls.{PowerOn, Call, settle, sleep, reset}
 use Rattle.model.specs.Validity.{validCount, validFeatures, valid}
 use Rattle.model.specs.Refusals.{View, tests, refusal}
-use Rattle.model.specs.Execution.{fresh, done, powerOn, viewOf, refused, perform, numberOf, call}
+use Rattle.model.specs.Execution.{fresh, done, powerOn, viewOf, refused, perform, call}
 use Rattle.model.specs.Records.{processorLimit, zeroProcessor}
 use Rattle.model.specs.declared.Machine.{Machine}
 use Rattle.model.specs.declared.Platform.{Platform}
-use Rattle.model.proofs.Frames.{call-performed, call-stopped}
-use Rattle.machine.specs.Meaning.{answerOf, outcomeOf}
-use Rattle.machine.specs.declared.Answer.the-variants.{Done, Refused}
+use Rattle.step.specs.Meaning.{answerOf}
+use Rattle.step.specs.declared.Answer.the-variants.{Done, Refused}
+use Rattle.step.proofs.Ways.{not-valid, stopped, performed, found-valid, found-not}
+use Rattle.machine.specs.Meaning.{outcomeOf}
 use Rattle.machine.specs.declared.Outcome.{Outcome}
 
 abbrev pub refusedWith : Machine → ℕ → Outcome
@@ -33,27 +34,7 @@ zeroedWith count features f = record { count = count; features = features; proce
 pub answer-refused : (n : ℕ) → (n ≡ 0 → ⊥) → answerOf n ≡ Refused n
 answer-refused n h = cond-off (ne-eqb n 0 h) Done (Refused n)
 
-module _ (m : Machine) (c : Call) where
-  pub stopped-by : (n : ℕ) → numberOf m c ≡ n → (n ≡ 0 → ⊥) → call m c ≡ refused n m c
-  stopped-by n e h = call-stopped m c (λ z. h (sym e ∙ z)) ∙ ap (λ (k : ℕ). refused k m c) e
-
-  pub not-valid : valid m ≡ false → call m c ≡ refused 1 m c
-  not-valid e = stopped-by 1 (cond-off e (refusal (viewOf m) c) 1) (suc-ne-zero 0)
-
-  module _ (v : valid m ≡ true) where
-    pub stopped : (n : ℕ) → refusal (viewOf m) c ≡ n → (n ≡ 0 → ⊥) → call m c ≡ refused n m c
-    stopped n e = stopped-by n (cond-on v (refusal (viewOf m) c) 1 ∙ e)
-
-    pub performed : refusal (viewOf m) c ≡ 0 → call m c ≡ perform m c
-    performed e = call-performed m c (cond-on v (refusal (viewOf m) c) 1 ∙ e)
-
--- ---- the same by value, told by what the code's test for refusal 1 said
-
-pub found-valid : (m : Machine) {b : Bool} → b ≡ valid m → not b ≡ false → valid m ≡ true
-found-valid m {b} e h = sym e ∙ not-false b h
-
-pub found-not : (m : Machine) {b : Bool} → b ≡ valid m → not b ≡ true → valid m ≡ false
-found-not m {b} e h = sym e ∙ not-true b h
+-- ---- told by what the code's test for refusal 1 said
 
 abbrev pub doneWith : Machine → Outcome
 doneWith m = record { machine = m; answer = Done; value = 0 }

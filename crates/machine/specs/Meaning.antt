@@ -1,45 +1,8 @@
--- What the answers of this crate stand for: the number and values of the scope for each case.
+-- What a call gives by value.
 -- Assumes nothing.
-use mathlib.Core.Bool.{Bool, true, false, cond}
-use mathlib.Core.List.{List}
-use mathlib.Core.Option.{Option, none, some}
-use Prim.Native.Nat.{ℕ}
-use lib.Dec.{eqb}
-use Rattle.isa.specs.declared.LoadIwKey.{LoadIwKey}
 use Rattle.model.specs.Calls as calls
-use Rattle.model.specs.declared.Machine.{Machine}
-use Rattle.machine.specs.declared.Answer.{Answer}
-use Rattle.machine.specs.declared.Answer.the-variants.{Done, Refused}
+use Rattle.step.specs.Meaning.{answerOf}
 use Rattle.machine.specs.declared.Outcome.{Outcome}
 
--- the scope, "Turned back": 0 where the call was not refused
-abbrev pub numberOf : Answer → ℕ
-numberOf Done = 0
-numberOf (Refused n) = n
-
--- the answer of a number
-abbrev pub answerOf : ℕ → Answer
-answerOf n = cond (eqb n 0) Done (Refused n)
-
--- what a call gives by value
 abbrev pub outcomeOf : calls.Outcome → Outcome
 outcomeOf o = record { machine = o .machine; answer = answerOf (o .answer .number); value = o .answer .value }
-
--- whether there is a LOADIWKEY, which alone changes an IWKey
-abbrev pub isLoad : Option LoadIwKey → Bool
-isLoad none = false
-isLoad (some l) = true
-
--- ---- what a step leaves: its answer, the machine and the CPU record
-
-pub record Left : Type 0 where
-  pub answer : Answer
-  pub machine : Machine
-  pub cpu : List ℕ
-
-abbrev pub left : Answer → Machine → List ℕ → Left
-left a m c = record { answer = a; machine = m; cpu = c }
-
--- what the model's call leaves: where it is refused, machine and CPU record as they were lent
-abbrev pub leftOf : calls.Outcome → Left
-leftOf o = left (answerOf (o .answer .number)) (o .machine) (o .answer .cpu)

@@ -86,39 +86,40 @@ machine-put m p e s h k =
     (sets-front entries platform (p * entrySize) (entryBytes e) (omega arith)
     ∙ ap (λ (t : List ℕ). t ++ platform) (entries-put (m .processors) p e (omega arith) (s .processors) k))
 
--- after a step that is not refused the machine's bytes differ from the block in the entry of its processor alone
-module _ (t : List ℕ) (n : length t ≡ machineSize) (s : StepCall) (accepted : call (machineAt t) (step s) .answer .number ≡ 0) where
-  abbrev m : Machine
-  m = machineAt t
+-- ---- a step that is not refused
 
-  abbrev after : Machine
-  after = call m (step s) .machine
+-- it leaves the machine but for the entry of its processor
+pub one-entry : (m : Machine) (s : StepCall) → s .processor < length (m .processors) → call m (step s) .answer .number ≡ 0
+    → call m (step s) .machine ≡ withProcessor (s .processor) (processorAt (call m (step s) .machine) (s .processor)) m
+unfolding perform
+one-entry m s there accepted =
+    let p = s .processor in
+    let e = processorAt m p in
+    let x = withKey (executed s (e .key) .key) e in
+    let here : call m (step s) .machine ≡ withProcessor p x m =
+    ap (λ o. o .machine) (call-performed m (step s) (sym (call-number m (step s)) ∙ accepted)) in
+    here ∙ ap (λ (d : Processor). withProcessor p d m) (sym (ap (λ (z : Machine). processorAt z p) here ∙ getD-set-same (m .processors) p x noProcessor there))
 
-  abbrev p : ℕ
-  p = s .processor
+pub processor-few : (m : Machine) (s : StepCall) → call m (step s) .answer .number ≡ 0 → s .processor < processorLimit
+processor-few m s accepted =
+    let parts = accepted-parts m (step s) (sym (call-number m (step s)) ∙ accepted) in
+    let few = count-few m (parts .0) in
+    let below = processor-below (viewOf m) (step s) (s .processor) (parts .1) refl in
+    omega arith
 
-  pub processor-few : p < processorLimit
-  processor-few =
-      let parts = accepted-parts m (step s) (sym (call-number m (step s)) ∙ accepted) in
-      let few = count-few m (parts .0) in
-      let below = processor-below (viewOf m) (step s) p (parts .1) refl in
-      omega arith
-
-  one-entry : after ≡ withProcessor p (processorAt after p) m
-  unfolding perform
-  one-entry =
-      let e = processorAt m p in
-      let c = machine-shaped t n .count in
-      let x = withKey (executed s (e .key) .key) e in
-      let here : after ≡ withProcessor p x m = ap (λ o. o .machine) (call-performed m (step s) (sym (call-number m (step s)) ∙ accepted)) in
-      let there : p < length (m .processors) = omega (arith, processor-few) in
-      here ∙ ap (λ (d : Processor). withProcessor p d m) (sym (ap (λ (z : Machine). processorAt z p) here ∙ getD-set-same (m .processors) p x noProcessor there))
-
-  pub step-entry : sets t (2 + p * entrySize) (entryBytes (processorAt after p)) ≡ machineBytes after
-  step-entry =
-      let s = call-shaped m (step s) (machine-shaped t n) in
-      let c = s .count in
-      ap (λ (w : List ℕ). sets w (2 + p * entrySize) (entryBytes (processorAt after p))) (sym (bytes-at t n))
-      ∙ machine-put m p (processorAt after p) (machine-shaped t n) processor-few
-      (entry-shaped (after .processors) p (omega (arith, processor-few)) (s .processors))
-      ∙ ap machineBytes (sym one-entry)
+-- so the machine's bytes differ from the block in that entry alone
+pub step-entry : (t : List ℕ) (n : length t ≡ machineSize) (s : StepCall) → call (machineAt t) (step s) .answer .number ≡ 0
+    → sets t (2 + s .processor * entrySize) (entryBytes (processorAt (call (machineAt t) (step s) .machine) (s .processor)))
+    ≡ machineBytes (call (machineAt t) (step s) .machine)
+step-entry t n s accepted =
+    let m = machineAt t in
+    let after = call m (step s) .machine in
+    let p = s .processor in
+    let few = processor-few m s accepted in
+    let shaped = machine-shaped t n in
+    let c = shaped .count in
+    let kept = call-shaped m (step s) shaped in
+    let d = kept .count in
+    ap (λ (w : List ℕ). sets w (2 + p * entrySize) (entryBytes (processorAt after p))) (sym (bytes-at t n))
+    ∙ machine-put m p (processorAt after p) shaped few (entry-shaped (after .processors) p (omega arith) (kept .processors))
+    ∙ ap machineBytes (sym (one-entry m s (omega arith) accepted))

@@ -13,6 +13,7 @@ use crate::print::print_word;
 use crate::print::word;
 use layout::read_machine;
 use layout::write_machine;
+use lent::step_through;
 use line::bytes;
 use line::find;
 use machine::Outcome;
@@ -92,7 +93,7 @@ fn print_cpu(old: &[u8], new: &[u8]) {
     print_changes(b" cpu", old, new);
 }
 
-// The CPU record is lent from a copy of the call's bytes, and then compared with them.
+// The machine is lent by `step_through`; the CPU record is lent from a copy of the call's bytes, and then compared with them.
 fn step(m: Machine, a: &[u8], b: &mut [u8]) -> Machine
     requires { ⌜ (length (now a) ≡ 960) × (length (now b) ≡ 960) ⌝ }
 {
@@ -100,7 +101,7 @@ fn step(m: Machine, a: &[u8], b: &mut [u8]) -> Machine
     let d = 440 + length_at(a, 18, 256);
     let e = 696 + length_at(a, 20, 64);
     let f = 760 + length_at(a, 22, 64);
-    let x = machine::step(m, a[1], &mut b[24..c], &a[440..d], &a[696..e], &a[760..f]);
+    let x = step_through(m, a[1], &mut b[24..c], &a[440..d], &a[696..e], &a[760..f]);
     let after = x.machine;
     let answer = x.answer;
     if print_answer(answer) {

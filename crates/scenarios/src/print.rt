@@ -1,6 +1,6 @@
 // What a line of standard output is put together from.
 use libc::STDOUT_FILENO;
-use machine::Answer;
+use step::Answer;
 
 pub fn print(text: &[u8]) {
     io::write_all(STDOUT_FILENO, text);

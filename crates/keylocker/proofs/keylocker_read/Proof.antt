@@ -2,7 +2,7 @@ use mathlib.Core.Path.{subst}
 use mathlib.Core.List.{List}
 use Prim.Native.Nat.{ℕ}
 use Rattle.model.specs.Calls.{ReadCall}
-use Rattle.machine.specs.declared.Answer.{Answer}
+use Rattle.step.specs.declared.Answer.{Answer}
 use Rattle.keylocker.specs.Meaning.{readAnswered}
 use Rattle.keylocker.specs.Promises.{ReadPromise}
 use Rattle.keylocker.proofs.Finishing.{read-short, read-called}

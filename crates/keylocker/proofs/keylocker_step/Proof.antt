@@ -1,22 +1,42 @@
 use mathlib.Core.Path.{sym, ap}
+use Prim.Native.Nat.{_%_}
 use Rattle.model.specs.Calls.{StepCall}
+use Rattle.model.specs.Records.{withProcessor}
 use Rattle.keylocker.specs.Meaning.{answered}
 use Rattle.keylocker.proofs.Finishing.{step-short, step-called, step-block}
 use borrow.Author.Needs.{needs}
 use Rattle.keylocker.proofs.keylocker_step.Statement.{statement}
 use Rattle.keylocker.proofs.keylocker_step.Tie as tie
 
+-- the call
+abbrev asked : tie.Start → StepCall
+asked c = record { processor = c .args .processor; cpu = c .args .cpu .now; memory = c .args .memory .now; random = c .args .random .now; string = c .args .string .now }
+
 returns : tie.Need-returns
-returns c =
-    let a = c .before .before .before .before .before .before .args in
-    let s : StepCall = record { processor = a .processor; cpu = a .cpu .now; memory = a .memory .now; random = a .random .now; string = a .string .now } in
-    step-short (a .machine .now) s (c .if1 .taken)
+returns c = step-short (c .before .before .before .before .before .before .args .machine .now) (asked (c .before .before .before .before .before .before)) (c .if1 .taken)
+
+returns-2 : tie.Need-returns-2
+returns-2 c =
+    let s = asked (c .before .before .before .before .before .before .before .before .before .before .before .before .before .before .before .before) in
+    let block = c .before .before .before .before .before .before .before .before .before .before .before .before .before .before .before .before .args .machine .now in
+    let x = c .before .before .before .before .before .before .step .result in
+    step-called block s _ _ _ _ _ (x .answer) (c .before .before .before .before .before .before .before .before .before .before .if1 .left) (c .before .before .before .before .before .before .before .before .read-machine .ensures) (c .before .before .before .before .before .before .step .ensures)
+    (ap (answered block (withProcessor (s .processor % 16) (x .processor) (c .before .before .before .before .before .before .before .before .read-machine .result))) (sym (c .before .answer .given .1)))
+
+returns-3 : tie.Need-returns-3
+returns-3 c =
+    let s = asked (c .before .before .before .before .before .before .before .before .before .before .before .before .before .before .before .before .before .before .before) in
+    let block = c .before .before .before .before .before .before .before .before .before .before .before .before .before .before .before .before .before .before .before .args .machine .now in
+    let x = c .before .before .before .before .before .before .before .before .before .step .result in
+    let size = c .before .before .before .before .before .before .before .before .before .before .before .before .before .if1 .left in
+    step-called block s _ _ _ _ _ (x .answer) size (c .before .before .before .before .before .before .before .before .before .before .before .read-machine .ensures) (c .before .before .before .before .before .before .before .before .before .step .ensures)
+    (step-block block s _ _ (x .processor) (x .answer) size (c .before .before .before .before .before .before .before .before .before .before .before .read-machine .ensures) (c .before .before .before .before .before .before .before .before .before .step .ensures) (c .before .before .before .before .enum-told .given .1) _ (c .before .before .write-entry .ensures))
 
 read-machine-requires : tie.Need-read-machine-requires
 read-machine-requires c κs = search needs
 
-step-through-requires : tie.Need-step-through-requires
-step-through-requires c κs = search needs
+step-requires : tie.Need-step-requires
+step-requires c κs = search needs
 
 enum-known-answer : tie.Need-enum-known-answer
 enum-known-answer c = search needs
@@ -36,38 +56,11 @@ same-length c = search needs
 same-length-2 : tie.Need-same-length-2
 same-length-2 c = search needs
 
-returns-2 : tie.Need-returns-2
-returns-2 c =
-    let a = c .before .before .before .before .before .before .before .before .before .before .before .before .before .before .before .before .args in
-    let s : StepCall = record { processor = a .processor; cpu = a .cpu .now; memory = a .memory .now; random = a .random .now; string = a .string .now } in
-    let t = c .before .before .before .before .before .before .step-through .result in
-    step-called (a .machine .now) s _ _ _ _ (t .machine) (t .answer) (c .before .before .before .before .before .before .before .before .before .before .if1 .left) (c .before .before .before .before .before .before .before .before .read-machine .ensures) (c .before .before .before .before .before .before .step-through .ensures)
-    (ap (answered (a .machine .now) (t .machine)) (sym (c .before .answer .given .1)))
-
 same-length-3 : tie.Need-same-length-3
 same-length-3 c = search needs
 
 same-length-4 : tie.Need-same-length-4
 same-length-4 c = search needs
-
-returns-3 : tie.Need-returns-3
-returns-3 c =
-    let a = c .before .before .before .before .before .before .before .before .before .before .before .before .before .before .before .before .before .before .before .before .args in
-    let s : StepCall = record { processor = a .processor; cpu = a .cpu .now; memory = a .memory .now; random = a .random .now; string = a .string .now } in
-    let t = c .before .before .before .before .before .before .before .before .before .before .step-through .result in
-    let size = c .before .before .before .before .before .before .before .before .before .before .before .before .before .before .if1 .left in
-    step-called (a .machine .now) s _ _ _ _ (t .machine) (t .answer) size (c .before .before .before .before .before .before .before .before .before .before .before .before .read-machine .ensures) (c .before .before .before .before .before .before .before .before .before .before .step-through .ensures)
-    (step-block (a .machine .now) s _ _ (t .machine) (t .answer) size (c .before .before .before .before .before .before .before .before .before .before .before .before .read-machine .ensures) (c .before .before .before .before .before .before .before .before .before .before .step-through .ensures) (c .before .before .before .before .before .enum-told .given .1) _
-    (c .before .before .write-entry .ensures))
-
-cast-e : tie.Need-cast-e
-cast-e c = search needs
-
-mul-e : tie.Need-mul-e
-mul-e c = search needs
-
-element-copy-out-e : tie.Need-element-copy-out-e
-element-copy-out-e c = search needs
 
 pub keylocker-step-spec : {M : Type 1} → statement M
 keylocker-step-spec =
@@ -75,13 +68,10 @@ keylocker-step-spec =
     (tie.spec
     returns
     read-machine-requires
-    step-through-requires
+    step-requires
     enum-known-answer
     cast-result
     enum-told
-    cast-e
-    mul-e
-    element-copy-out-e
     write-entry-requires
     same-length
     same-length-2

@@ -1,8 +1,9 @@
 use mathlib.Core.Path.{_∙_, sym}
 use Rattle.model.specs.Calls as calls
-use Rattle.machine.proofs.Calls.{found-valid, outcome-invalid, outcome-refused}
-use Rattle.machine.proofs.Steps.{read-done}
-use Rattle.machine.specs.declared.Answer.the-variants.{Done}
+use Rattle.machine.proofs.Calls.{outcome-invalid, outcome-refused}
+use Rattle.step.proofs.Ways.{found-valid}
+use Rattle.machine.proofs.Registers.{read-done}
+use Rattle.step.specs.declared.Answer.the-variants.{Done}
 use borrow.Author.Needs.{needs}
 use Rattle.machine.proofs.read.Statement.{statement}
 use Rattle.machine.proofs.read.Tie as tie

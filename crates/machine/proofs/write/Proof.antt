@@ -2,8 +2,9 @@ use mathlib.Core.Path.{_∙_, sym, ap}
 use Rattle.model.specs.Calls as calls
 use Rattle.model.specs.Records.{withPlatform}
 use Rattle.model.specs.declared.Machine.{Machine}
-use Rattle.machine.proofs.Calls.{found-valid, doneWith, outcome-invalid, outcome-refused}
-use Rattle.machine.proofs.Steps.{write-done}
+use Rattle.machine.proofs.Calls.{doneWith, outcome-invalid, outcome-refused}
+use Rattle.step.proofs.Ways.{found-valid}
+use Rattle.machine.proofs.Registers.{write-done}
 use Rattle.platform.specs.Meaning.{copiedOf}
 use borrow.Author.Needs.{needs}
 use Rattle.machine.proofs.write.Statement.{statement}

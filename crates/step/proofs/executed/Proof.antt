@@ -6,8 +6,8 @@ use Rattle.loadiwkey.specs.Meaning.{randomData}
 use Rattle.model.specs.Calls.{StepCall}
 use Rattle.model.specs.Instructions as instructions
 use borrow.Author.Needs.{needs}
-use Rattle.machine.proofs.executed.Statement.{statement}
-use Rattle.machine.proofs.executed.Tie as tie
+use Rattle.step.proofs.executed.Statement.{statement}
+use Rattle.step.proofs.executed.Tie as tie
 
 enum-known-d : tie.Need-enum-known-d
 enum-known-d c = search needs

@@ -8,9 +8,9 @@ use borrow.Author.Needs.{needs}
 use lib.ListN.{length, getD, length-set}
 use lib.Seq.{ext-getD}
 use Rattle.bits.proofs.Lists.{filled}
-use Rattle.machine.proofs.Steps.{no-data, all-data}
-use Rattle.machine.proofs.random_of.Statement.{statement}
-use Rattle.machine.proofs.random_of.Tie as tie
+use Rattle.step.proofs.Steps.{no-data, all-data}
+use Rattle.step.proofs.random_of.Statement.{statement}
+use Rattle.step.proofs.random_of.Tie as tie
 
 abbrev Inv-loop : tie.InvT-loop
 Inv-loop random bytes₀ i₀ bytes i = (i ≤ 48) × (length bytes ≡ 48) × ((k : ℕ) → k < i → getD bytes k 0 ≡ getD random k 0)
