@@ -1,21 +1,21 @@
--- Products that are not yet reduced: a shift by four places with a multiple added, and the division by x^64.
+-- Products that are not yet reduced: a shift by a byte with two multiples added, and the division by x^64.
 -- Assumes nothing.
-use mathlib.Core.Path.{_≡_, refl, sym, ap, ap₂, _∙_}
+use mathlib.Core.Path.{_≡_, refl, sym, ap, ap₂, subst, _∙_}
 use Prim.Native.Nat.{ℕ, _+_, _*_, _/_, _%_, _^_, _≤_, _<_}
-use native.Mathlib.Nat.{add-zero, add-mul, mul-assoc, one-mul, mod-lt, mod-eq-of-lt, lt-of-lt-of-le, lt-of-le-of-lt, le-mul-of-pos-right}
+use native.Mathlib.Nat.{zero-add, add-comm, add-assoc, add-mul, mul-assoc, one-mul, mod-lt, div-eq-of-lt, lt-of-lt-of-le, lt-of-le-of-lt, le-mul-of-pos-right}
 use native.Mathlib.Omega.{arith}
 use lib.Arith.{digits-div, digits-mod}
-use lib.Bits.{bitXor, xor-lt, xor-shifted, xor-zero-r}
+use lib.Bits.{bitXor, xor-lt, xor-shifted}
 use lib.Dec.{eqb→eq, lit<}
 use lib.Pow.{pow-pos, pow-mono, shl-lt, shr-lt}
 use Rattle.bits.specs.Polynomials.{timesPower}
-use Rattle.bits.proofs.Xor.{xor-assoc}
+use Rattle.bits.proofs.Xor.{xor-assoc, interchange}
 use Rattle.bits.proofs.Field.{power-lt, power-xor, power-add, power-shift, power-split, times-lt, times-power, times-xor-right, times-one, times-shift}
 use Rattle.rfc8452.specs.Field.{add, timesX, timesXTo, multiply}
 use Rattle.rfc8452.proofs.Field.{gf128}
-use Rattle.polyval.proofs.Halves.{xor-halves, halves-lt, moved-div, moved-mod, moved-halves, moved-high, moved-low}
+use Rattle.polyval.proofs.Halves.{xor-halves, xor-high, xor-low, halves-lt, moved-div, moved-mod, moved-halves, middle-lt, moved, moved-high, moved-low}
 
-pub wide : (x : ℕ) → x < 2 ^ 64 → x < 2 ^ 128
+wide : (x : ℕ) → x < 2 ^ 64 → x < 2 ^ 128
 wide x h = lt-of-lt-of-le h (pow-mono {i = 64} {j = 128} (omega arith))
 
 -- an element n places up
@@ -25,22 +25,70 @@ up i n x e h =
     ∙ ap₂ (λ (p q : ℕ). add (timesXTo 128 p) q) (sym (ap (λ (m : ℕ). x * 2 ^ n / 2 ^ m) (sym e) ∙ moved-div i n x))
     (sym (ap (λ (m : ℕ). x * 2 ^ n % 2 ^ m) (sym e) ∙ moved-mod i n x))
 
--- three words four places up
-pub shifted : (w2 w1 w0 : ℕ) → w2 * 16 < 2 ^ 64 → w1 < 2 ^ 64 → w0 < 2 ^ 64 → timesXTo 4 (add (timesXTo 128 w2) (w1 * 2 ^ 64 + w0))
-    ≡ add (timesXTo 128 (w2 * 16 + w1 / 2 ^ 60)) ((w1 * 16 % 2 ^ 64 + w0 / 2 ^ 60) * 2 ^ 64 + w0 * 16 % 2 ^ 64)
-shifted w2 w1 w0 fits p q =
-    let n = w1 * 2 ^ 64 + w0 in
-    let t = w1 / 2 ^ 60 in
-    let y = (w1 * 16 % 2 ^ 64 + w0 / 2 ^ 60) * 2 ^ 64 + w0 * 16 % 2 ^ 64 in
-    let small : t < 2 ^ 4 = shr-lt 4 60 p in
-    let ht : t < 2 ^ 128 = lt-of-lt-of-le small (pow-mono {i = 4} {j = 128} (omega arith)) in
-    let h2 : w2 < 2 ^ 128 = wide w2 (lt-of-le-of-lt (le-mul-of-pos-right w2 (lit< tt)) fits) in
-    let high : timesXTo 4 (timesXTo 128 w2) ≡ timesXTo 128 (w2 * 16) =
-    sym (power-add gf128 4 128 w2) ∙ power-add gf128 128 4 w2 ∙ ap (timesXTo 128) (power-shift gf128 4 w2 (wide (w2 * 16) fits)) in
-    power-xor gf128 4 (timesXTo 128 w2) n (power-lt gf128 128 w2 h2) (halves-lt w1 w0 p q)
-    ∙ ap₂ bitXor high (up 124 4 n refl (halves-lt w1 w0 p q) ∙ ap₂ (λ (x z : ℕ). bitXor (timesXTo 128 x) z) (moved-high 60 4 w1 w0 refl q) (moved-low 60 4 w1 w0 refl q))
-    ∙ sym (xor-assoc (timesXTo 128 (w2 * 16)) (timesXTo 128 t) y)
-    ∙ ap (λ (x : ℕ). bitXor x y) (sym (power-xor gf128 128 (w2 * 16) t (wide (w2 * 16) fits) ht) ∙ ap (timesXTo 128) (xor-shifted w2 4 t small))
+-- two elements n places up, the first above x^128: what goes over from the second joins it
+pub carried : (n h l t m : ℕ) → n ≤ 128 → h * 2 ^ n < 2 ^ 128 → l < 2 ^ 128 → t < 2 ^ n → timesXTo n l ≡ add (timesXTo 128 t) m
+    → timesXTo n (add (timesXTo 128 h) l) ≡ add (timesXTo 128 (h * 2 ^ n + t)) m
+carried n h l t m le fits hl small e =
+    let hh : h < 2 ^ 128 = lt-of-le-of-lt (le-mul-of-pos-right h (pow-pos n)) fits in
+    let ht : t < 2 ^ 128 = lt-of-lt-of-le small (pow-mono le) in
+    power-xor gf128 n (timesXTo 128 h) l (power-lt gf128 128 h hh) hl
+    ∙ ap₂ bitXor (sym (power-add gf128 n 128 h) ∙ ap (λ (j : ℕ). timesXTo j h) (add-comm n 128) ∙ power-add gf128 128 n h ∙ ap (timesXTo 128) (power-shift gf128 n h fits)) e
+    ∙ sym (xor-assoc (timesXTo 128 (h * 2 ^ n)) (timesXTo 128 t) m)
+    ∙ ap (λ (x : ℕ). bitXor x m) (sym (power-xor gf128 128 (h * 2 ^ n) t fits ht) ∙ ap (timesXTo 128) (xor-shifted h n t small))
+
+-- one word up
+up-64 : (h l : ℕ) → h < 2 ^ 64 → l < 2 ^ 64 → timesXTo 64 (h * 2 ^ 64 + l) ≡ add (timesXTo 128 h) (l * 2 ^ 64)
+up-64 h l p q =
+    let e : (h * 2 ^ 64 + l) * 2 ^ 64 ≡ h * 2 ^ 128 + l * 2 ^ 64 = add-mul (h * 2 ^ 64) l (2 ^ 64) ∙ ap (λ (n : ℕ). n + l * 2 ^ 64) (mul-assoc h (2 ^ 64) (2 ^ 64)) in
+    let r : l * 2 ^ 64 < 2 ^ 128 = shl-lt 64 64 q in
+    up 64 64 (h * 2 ^ 64 + l) refl (halves-lt h l p q)
+    ∙ ap₂ (λ (x y : ℕ). add (timesXTo 128 x) y) (ap (λ (n : ℕ). n / 2 ^ 128) e ∙ digits-div h r) (ap (λ (n : ℕ). n % 2 ^ 128) e ∙ digits-mod h r)
+
+-- four words a byte up
+module _ (w3 w2 w1 w0 : ℕ) (fits : w3 * 256 < 2 ^ 64) (p : w2 < 2 ^ 64) (q : w1 < 2 ^ 64) (r : w0 < 2 ^ 64) where
+  abbrev top : ℕ
+  top = w3 * 256 % 2 ^ 64 + w2 / 2 ^ 56
+
+  abbrev high : ℕ
+  high = top * 2 ^ 64 + (w2 * 256 % 2 ^ 64 + w1 / 2 ^ 56)
+
+  abbrev low : ℕ
+  low = (w1 * 256 % 2 ^ 64 + w0 / 2 ^ 56) * 2 ^ 64 + w0 * 256 % 2 ^ 64
+
+  shifted : timesXTo 8 (add (timesXTo 128 (w3 * 2 ^ 64 + w2)) (w1 * 2 ^ 64 + w0)) ≡ add (timesXTo 128 high) low
+  shifted =
+      let h = w3 * 2 ^ 64 + w2 in
+      let l = w1 * 2 ^ 64 + w0 in
+      let t = w1 / 2 ^ 56 in
+      let m = w2 * 256 % 2 ^ 64 in
+      let hl : l < 2 ^ 128 = halves-lt w1 w0 q r in
+      let e : h * 2 ^ 8 ≡ top * 2 ^ 64 + m = moved 56 8 w3 w2 refl p ∙ ap (λ (n : ℕ). n * 2 ^ 128 + (top * 2 ^ 64 + m)) (div-eq-of-lt (omega arith)) ∙ zero-add (top * 2 ^ 64 + m) in
+      let big : h * 2 ^ 8 < 2 ^ 128 = subst (λ (n : ℕ). n < 2 ^ 128) (sym e) (halves-lt top m (middle-lt 56 8 w3 w2 refl p) (mod-lt (w2 * 256) (pow-pos 64))) in
+      carried 8 h l t low (omega arith) big hl (shr-lt 8 56 q)
+      (up 120 8 l refl hl ∙ ap₂ (λ (x y : ℕ). bitXor (timesXTo 128 x) y) (moved-high 56 8 w1 w0 refl r) (moved-low 56 8 w1 w0 refl r))
+      ∙ ap (λ (n : ℕ). add (timesXTo 128 n) low) (ap (λ (n : ℕ). n + t) e ∙ add-assoc (top * 2 ^ 64) m t)
+
+  -- and two elements added, one of them a word up
+  pub shift-added : (nh nl mh ml : ℕ) → nh < 2 ^ 64 → nl < 2 ^ 64 → ml < 2 ^ 64
+      → add (timesXTo 128 (top * 2 ^ 64 + bitXor (w2 * 256 % 2 ^ 64 + w1 / 2 ^ 56) nh))
+      (bitXor (bitXor (w1 * 256 % 2 ^ 64 + w0 / 2 ^ 56) nl) mh * 2 ^ 64 + bitXor (w0 * 256 % 2 ^ 64) ml)
+      ≡ add (timesXTo 8 (add (timesXTo 128 (w3 * 2 ^ 64 + w2)) (w1 * 2 ^ 64 + w0))) (add (timesXTo 64 (nh * 2 ^ 64 + nl)) (mh * 2 ^ 64 + ml))
+  shift-added nh nl mh ml hn hl hm =
+      let m2 = w2 * 256 % 2 ^ 64 + w1 / 2 ^ 56 in
+      let m1 = w1 * 256 % 2 ^ 64 + w0 / 2 ^ 56 in
+      let m0 = w0 * 256 % 2 ^ 64 in
+      let l0 : m0 < 2 ^ 64 = mod-lt (w0 * 256) (pow-pos 64) in
+      let l2 : m2 < 2 ^ 64 = middle-lt 56 8 w2 w1 refl q in
+      let m = mh * 2 ^ 64 + ml in
+      let x = timesXTo 128 high in
+      let y = timesXTo 128 nh in
+      let z = nl * 2 ^ 64 in
+      ap₂ bitXor
+      (ap (timesXTo 128) (xor-low top m2 nh l2 hn) ∙ power-xor gf128 128 high nh (halves-lt top m2 (middle-lt 56 8 w3 w2 refl p) l2) (wide nh hn))
+      (xor-halves (bitXor m1 nl) m0 mh ml l0 hm ∙ ap (λ (n : ℕ). bitXor n m) (xor-high m1 m0 nl l0))
+      ∙ sym (xor-assoc (bitXor x y) (bitXor low z) m)
+      ∙ ap (λ (n : ℕ). bitXor n m) (interchange x y low z ∙ ap₂ bitXor (sym shifted) (sym (up-64 nh nl hn hl)))
+      ∙ xor-assoc (timesXTo 8 (add (timesXTo 128 (w3 * 2 ^ 64 + w2)) (w1 * 2 ^ 64 + w0))) (timesXTo 64 (nh * 2 ^ 64 + nl)) m
 
 -- ---- the division by x^64
 
@@ -76,13 +124,6 @@ module _ (w2 w1 u : ℕ) (h2 : w2 < 2 ^ 64) (h1 : w1 < 2 ^ 64) (h : u < 2 ^ 64) 
   abbrev whole : ℕ
   whole = w2 * 2 ^ 64 + w1
 
-  up-64 : timesXTo 64 (w2 * 2 ^ 64 + w1) ≡ add (timesXTo 128 w2) (w1 * 2 ^ 64)
-  up-64 =
-      let e : (w2 * 2 ^ 64 + w1) * 2 ^ 64 ≡ w2 * 2 ^ 128 + w1 * 2 ^ 64 = add-mul (w2 * 2 ^ 64) w1 (2 ^ 64) ∙ ap (λ (n : ℕ). n + w1 * 2 ^ 64) (mul-assoc w2 (2 ^ 64) (2 ^ 64)) in
-      let l : w1 * 2 ^ 64 < 2 ^ 128 = shl-lt 64 64 h1 in
-      up 64 64 (w2 * 2 ^ 64 + w1) refl (halves-lt w2 w1 h2 h1)
-      ∙ ap₂ (λ (x y : ℕ). add (timesXTo 128 x) y) (ap (λ (n : ℕ). n / 2 ^ 128) e ∙ digits-div w2 l) (ap (λ (n : ℕ). n % 2 ^ 128) e ∙ digits-mod w2 l)
-
   -- what the code computes is the sum of the two words and the multiple of x^-64
   summed : bitXor (bitXor (bitXor (bitXor w2 u) (u / 2)) (u / 4)) (u / 2 ^ 7) * 2 ^ 64
       + bitXor (bitXor (bitXor w1 (u * 2 ^ 63 % 2 ^ 64)) (u * 2 ^ 62 % 2 ^ 64)) (u * 2 ^ 57 % 2 ^ 64)
@@ -91,12 +132,10 @@ module _ (w2 w1 u : ℕ) (h2 : w2 < 2 ^ 64) (h1 : w1 < 2 ^ 64) (h : u < 2 ^ 64) 
       let m : (j : ℕ) → u * 2 ^ j % 2 ^ 64 < 2 ^ 64 = λ j. mod-lt (u * 2 ^ j) (pow-pos 64) in
       let l1 = xor-lt 64 w1 (u * 2 ^ 63 % 2 ^ 64) h1 (m 63) in
       let l2 = xor-lt 64 (bitXor w1 (u * 2 ^ 63 % 2 ^ 64)) (u * 2 ^ 62 % 2 ^ 64) l1 (m 62) in
-      let first : bitXor w2 u * 2 ^ 64 + w1 ≡ bitXor whole (u * 2 ^ 64) =
-      ap (λ (n : ℕ). bitXor w2 u * 2 ^ 64 + n) (sym (xor-zero-r w1)) ∙ xor-halves w2 w1 u 0 h1 (lit< tt) ∙ ap (bitXor whole) (add-zero (u * 2 ^ 64)) in
       xor-halves (bitXor (bitXor (bitXor w2 u) (u / 2)) (u / 4)) (bitXor (bitXor w1 (u * 2 ^ 63 % 2 ^ 64)) (u * 2 ^ 62 % 2 ^ 64)) (u / 2 ^ 7) (u * 2 ^ 57 % 2 ^ 64) l2 (m 57)
       ∙ ap₂ bitXor
       (xor-halves (bitXor (bitXor w2 u) (u / 2)) (bitXor w1 (u * 2 ^ 63 % 2 ^ 64)) (u / 4) (u * 2 ^ 62 % 2 ^ 64) l1 (m 62)
-      ∙ ap₂ bitXor (xor-halves (bitXor w2 u) w1 (u / 2) (u * 2 ^ 63 % 2 ^ 64) h1 (m 63) ∙ ap₂ bitXor first (moved-halves 1 63 u refl)) (moved-halves 2 62 u refl))
+      ∙ ap₂ bitXor (xor-halves (bitXor w2 u) w1 (u / 2) (u * 2 ^ 63 % 2 ^ 64) h1 (m 63) ∙ ap₂ bitXor (xor-high w2 w1 u h1) (moved-halves 1 63 u refl)) (moved-halves 2 62 u refl))
       (moved-halves 7 57 u refl)
       ∙ regroup whole (u * 2 ^ 64) (u * 2 ^ 63) (u * 2 ^ 62) (u * 2 ^ 57)
       ∙ ap (bitXor whole) (sym (by-inverse u h))
@@ -111,24 +150,6 @@ module _ (w2 w1 u : ℕ) (h2 : w2 < 2 ^ 64) (h1 : w1 < 2 ^ 64) (h : u < 2 ^ 64) 
   reduced =
       ap (timesXTo 64) summed
       ∙ power-xor gf128 64 whole (multiply u inverseX64) (halves-lt w2 w1 h2 h1) (times-lt gf128 u inverseX64 (wide u h))
-      ∙ ap₂ bitXor up-64 (undone u h)
+      ∙ ap₂ bitXor (up-64 w2 w1 h2 h1) (undone u h)
       ∙ xor-assoc (timesXTo 128 w2) (w1 * 2 ^ 64) u
       ∙ ap (bitXor (timesXTo 128 w2)) (xor-shifted w1 64 u h)
-
--- ---- as the code computes them
-
--- three words four places up, and an element added
-pub shift-added : (w2 w1 w0 mh ml : ℕ) → w2 * 16 < 2 ^ 64 → w1 < 2 ^ 64 → w0 < 2 ^ 64 → ml < 2 ^ 64
-    → add (timesXTo 128 (w2 * 16 % 2 ^ 64 + w1 / 2 ^ 60)) (bitXor (w1 * 16 % 2 ^ 64 + w0 / 2 ^ 60) mh * 2 ^ 64 + bitXor (w0 * 16 % 2 ^ 64) ml)
-    ≡ add (timesXTo 4 (add (timesXTo 128 w2) (w1 * 2 ^ 64 + w0))) (mh * 2 ^ 64 + ml)
-shift-added w2 w1 w0 mh ml fits p q l =
-    let t = timesXTo 128 (w2 * 16 + w1 / 2 ^ 60) in
-    let n = (w1 * 16 % 2 ^ 64 + w0 / 2 ^ 60) * 2 ^ 64 + w0 * 16 % 2 ^ 64 in
-    ap₂ (λ (x y : ℕ). add (timesXTo 128 (x + w1 / 2 ^ 60)) y) (mod-eq-of-lt fits)
-    (xor-halves (w1 * 16 % 2 ^ 64 + w0 / 2 ^ 60) (w0 * 16 % 2 ^ 64) mh ml (mod-lt (w0 * 16) (pow-pos 64)) l)
-    ∙ sym (xor-assoc t n (mh * 2 ^ 64 + ml))
-    ∙ ap (λ (x : ℕ). add x (mh * 2 ^ 64 + ml)) (sym (shifted w2 w1 w0 fits p q))
-
-pub added : (t w1 w0 h l : ℕ) → w0 < 2 ^ 64 → l < 2 ^ 64
-    → add t (bitXor w1 h * 2 ^ 64 + bitXor w0 l) ≡ add (add t (w1 * 2 ^ 64 + w0)) (h * 2 ^ 64 + l)
-added t w1 w0 h l p q = ap (add t) (xor-halves w1 w0 h l p q) ∙ sym (xor-assoc t (w1 * 2 ^ 64 + w0) (h * 2 ^ 64 + l))

@@ -28,6 +28,12 @@ pub(crate) fn times_x(e: Element) -> Element
     }
 }
 
+pub(crate) fn times_x4(e: Element) -> Element
+    ensures { λ r. ⌜ num r ≡ rfc.timesXTo 4 (num e) ⌝ }
+{
+    times_x(times_x(times_x(times_x(e))))
+}
+
 // Two words of 32 bits as one.
 fn join(low: u32, high: u32) -> u64
     ensures { λ r. ⌜ leBytes 8 r ≡ leBytes 4 low ++ leBytes 4 high ⌝ }

@@ -12,6 +12,7 @@ mod hash;
 mod table;
 
 use crate::field::from_block;
+use crate::field::times_x4;
 use crate::field::to_block;
 use crate::hash::update;
 use crate::table::multiples;
@@ -24,23 +25,26 @@ pub(crate) struct Element {
     pub hi: u64,
 }
 
-// A product that is not yet reduced: w2 holds the coefficients from x^128 on.
+// A product that is not yet reduced: w2 and w3 hold the coefficients from x^128 on.
 pub(crate) struct Wide {
     pub w0: u64,
     pub w1: u64,
     pub w2: u64,
+    pub w3: u64,
 }
 
 // POLYVAL(H, X_1, .., X_n): the X are the whole blocks of the bytes.
 pub fn polyval(h: Block, bytes: &[u8]) -> Block
     ensures { λ r. ⌜ bytesOf r ≡ rfc.polyval (bytesOf h) (blocks (length (now (bytes .entry)) / 16) (now (bytes .entry))) ⌝ }
 {
-    let table = multiples(from_block(h));
+    let key = from_block(h);
+    let low = multiples(key);
+    let high = multiples(times_x4(key));
     let n = bytes.len() / 16;
     let mut s = Element { lo: 0, hi: 0 };
     let mut i: usize = 0;
     while i < n {
-        let v = update(&table, s, block_at(bytes, 16 * i));
+        let v = update(&low, &high, s, block_at(bytes, 16 * i));
         s = v;
         i += 1;
     }

@@ -1,4 +1,4 @@
-// The multiples of the hash key that a product of four bits at a time looks up.
+// The multiples of an element by four bits, as a product looks them up.
 ghost use mathlib.Core.Path.{_≡_};
 ghost use Prim.Native.Nat.{_+_, _*_, _^_, _%_, _<_};
 ghost use lib.ListN.{getD, set};

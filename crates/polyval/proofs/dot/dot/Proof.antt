@@ -1,11 +1,9 @@
 -- Assumes nothing.
-use mathlib.Core.Path.{ap, _∙_}
-use Prim.Native.Nat.{ℕ}
+use Prim.Native.Nat.{_+_, _*_, _^_}
 use borrow.Author.Needs.{needs}
-use Rattle.rfc8452.specs.Field.{add}
-use Rattle.polyval.specs.Meaning.{num, first}
+use Rattle.polyval.specs.Meaning.{num, value, first}
 use Rattle.polyval.proofs.Halves.{halves-lt}
-use Rattle.polyval.proofs.Windows.{from-halves}
+use Rattle.polyval.proofs.Windows.{twice-reduced}
 use Rattle.polyval.proofs.dot.dot.Statement.{statement}
 use Rattle.polyval.proofs.dot.dot.Tie as tie
 
@@ -15,33 +13,21 @@ product-requires c κs = search needs
 reduce-requires : tie.Need-reduce-requires
 reduce-requires c κs = search needs
 
-product-requires-2 : tie.Need-product-requires-2
-product-requires-2 c κs = search needs
-
-add-wide-requires : tie.Need-add-wide-requires
-add-wide-requires c κs = search needs
-
 reduce-requires-2 : tie.Need-reduce-requires-2
 reduce-requires-2 c κs = search needs
 
 returns : tie.Need-returns
+unfolding value
 returns c =
-    let st = c .before .before .before .before .before in
+    let st = c .before .before .before in
     let a = st .args .a in
-    let low = c .before .before .before .reduce in
-    let r = c .reduce2 in
-    from-halves (first (st .args .multiples .now)) (a .hi) (a .lo) (num (low .result)) (num (r .result)) (st .pre .0) (search needs) (search needs)
-    (halves-lt (low .result .hi) (low .result .lo) (search needs) (search needs)) (halves-lt (r .result .hi) (r .result .lo) (search needs) (search needs))
-    (low .ensures ∙ c .before .before .before .before .product .ensures)
-    (r .ensures ∙ c .before .add-wide .ensures ∙ ap (λ (v : ℕ). add v (num (low .result))) (c .before .before .product2 .ensures))
+    let w = c .before .before .product .result in
+    let e = c .before .reduce .result in
+    let r = c .reduce2 .result in
+    twice-reduced (first (st .args .low .now)) (num a) (w .w3) (w .w2) (w .w1 * 2 ^ 64 + w .w0) (num e) (num r) (st .pre .0 .0)
+    (halves-lt (a .hi) (a .lo) (search needs) (search needs)) (search needs) (search needs)
+    (halves-lt (e .hi) (e .lo) (search needs) (search needs)) (halves-lt (r .hi) (r .lo) (search needs) (search needs))
+    (c .before .before .product .ensures) (c .before .reduce .ensures) (c .reduce2 .ensures)
 
 pub dot-spec : {M : Type 1} → statement M
-dot-spec =
-    tie.close
-    (tie.spec
-    product-requires
-    reduce-requires
-    product-requires-2
-    add-wide-requires
-    reduce-requires-2
-    returns)
+dot-spec = tie.close (tie.spec product-requires reduce-requires reduce-requires-2 returns)

@@ -19,7 +19,7 @@ dot-requires c κs = search needs
 returns : tie.Need-returns
 returns c =
     c .dot .ensures
-    ∙ ap (λ (n : ℕ). dot n (first (c .before .before .before .args .multiples .now))) (c .before .add .ensures ∙ ap (add (num (c .before .before .before .args .s))) (c .before .before .from-block .ensures))
+    ∙ ap (λ (n : ℕ). dot n (first (c .before .before .before .args .low .now))) (c .before .add .ensures ∙ ap (add (num (c .before .before .before .args .s))) (c .before .before .from-block .ensures))
 
 pub update-spec : {M : Type 1} → statement M
 update-spec = tie.close (tie.spec from-block-requires add-requires dot-requires returns)
