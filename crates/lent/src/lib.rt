@@ -1,13 +1,37 @@
-// A step on a lent machine and a lent CPU record: both are found advanced after the call, and as they were where it is refused.
-// The borrow checker covers no function over a reference to a struct, and none that lends one: `step_lent` and `step_through` are thin and proved by hand,
-// and `machine::step` does the work.
+// A step with the machine by value, and on a lent machine: it is found advanced after the call, and as it was where that is refused; so is the CPU record.
+// The borrow checker covers no function over a reference to a struct, and none that lends one: `step_lent` and `step_through` are thin and proved by hand.
 ghost use mathlib.Core.Path.{_≡_};
 ghost use Rattle.model.specs.Calls.{step};
 ghost use Rattle.model.specs.Execution as execution;
 ghost use Rattle.step.specs.Meaning.{left, leftOf};
-use machine::Stepped;
+use machine::with_processor;
 use model::Machine;
 use step::Answer;
+
+// The machine after a step, and the answer. The CPU record is lent.
+pub struct Stepped {
+    pub machine: Machine,
+    pub answer: Answer,
+}
+
+pub fn step(
+    m: Machine,
+    processor: u8,
+    cpu: &mut [u8],
+    memory: &[u8],
+    random: &[u8],
+    string: &[u8],
+) -> Stepped
+    ensures { λ r. ⌜ left (r .answer) (r .machine) (now (cpu .exit)) ≡ leftOf (execution.call m (step (record { processor = processor; cpu = now (cpu .entry); memory = now (memory .entry); random = now (random .entry); string = now (string .entry) }))) ⌝ }
+{
+    let x = step::step(m, processor, cpu, memory, random, string);
+    let e = x.processor;
+    let answer = x.answer;
+    Stepped {
+        machine: with_processor(m, processor, e),
+        answer,
+    }
+}
 
 pub fn step_lent(
     m: &mut Machine,
@@ -19,7 +43,7 @@ pub fn step_lent(
 ) -> Answer
     ensures { λ r. ⌜ left r (now (m .exit)) (now (cpu .exit)) ≡ leftOf (execution.call (now (m .entry)) (step (record { processor = processor; cpu = now (cpu .entry); memory = now (memory .entry); random = now (random .entry); string = now (string .entry) }))) ⌝ }
 {
-    let r = machine::step(*m, processor, cpu, memory, random, string);
+    let r = step(*m, processor, cpu, memory, random, string);
     *m = r.machine;
     r.answer
 }

@@ -1,11 +1,10 @@
-// The machine by value: power-on, register calls, settle, sleep, reset and step.
+// The machine by value: power-on, register calls, settle, sleep and reset. A step is in `step`.
 ghost use mathlib.Core.Path.{_≡_};
 ghost use Prim.Native.Nat.{_%_};
 ghost use lib.ListN.{getD, set, replicate};
-ghost use Rattle.model.specs.Calls.{step, read, write, settle, sleep, reset};
+ghost use Rattle.model.specs.Calls.{read, write, settle, sleep, reset};
 ghost use Rattle.model.specs.Execution as execution;
 ghost use Rattle.model.specs.Records.{processorLimit, zeroKey, zeroProcessor, noProcessor, withProcessors};
-ghost use Rattle.step.specs.Meaning.{left, leftOf};
 ghost use Rattle.step.specs.declared.Answer.the-variants.{Done, Refused};
 ghost use Rattle.machine.specs.Meaning.{outcomeOf};
 use model::IwKey;
@@ -25,12 +24,6 @@ pub struct Outcome {
     pub machine: Machine,
     pub answer: Answer,
     pub value: u64,
-}
-
-// The machine after a step, and the answer. The CPU record is lent.
-pub struct Stepped {
-    pub machine: Machine,
-    pub answer: Answer,
 }
 
 fn zero_key() -> IwKey
@@ -110,7 +103,7 @@ fn processor_at(m: Machine, p: u8) -> Processor
     m.processors[(p % 16) as usize]
 }
 
-fn with_processor(m: Machine, p: u8, e: Processor) -> Machine
+pub fn with_processor(m: Machine, p: u8, e: Processor) -> Machine
     ensures { λ r. ⌜ r ≡ withProcessors (set (m .processors) (p % 16) e) m ⌝ }
 {
     let mut n = m;
@@ -202,25 +195,4 @@ pub fn write(m: Machine, processor: u8, cpl: u8, address: u32, value: u64) -> Ou
     let mut k = with_processor(m, processor, e);
     k.platform = g;
     done(k)
-}
-
-// ---- step
-
-pub fn step(
-    m: Machine,
-    processor: u8,
-    cpu: &mut [u8],
-    memory: &[u8],
-    random: &[u8],
-    string: &[u8],
-) -> Stepped
-    ensures { λ r. ⌜ left (r .answer) (r .machine) (now (cpu .exit)) ≡ leftOf (execution.call m (step (record { processor = processor; cpu = now (cpu .entry); memory = now (memory .entry); random = now (random .entry); string = now (string .entry) }))) ⌝ }
-{
-    let x = step::step(m, processor, cpu, memory, random, string);
-    let e = x.processor;
-    let answer = x.answer;
-    Stepped {
-        machine: with_processor(m, processor, e),
-        answer,
-    }
 }

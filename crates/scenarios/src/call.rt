@@ -13,11 +13,11 @@ use crate::print::print_word;
 use crate::print::word;
 use layout::read_machine;
 use layout::write_machine;
+use lent::Stepped;
 use lent::step_through;
 use line::bytes;
 use line::find;
 use machine::Outcome;
-use machine::Stepped;
 use model::Machine;
 
 fn print_kind(kind: u8) {

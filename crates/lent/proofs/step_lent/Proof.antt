@@ -1,7 +1,7 @@
--- A walk by hand: the machine's borrow is opened, the machine copied out and passed to `machine::step`, the one that comes back stored, and the borrow closed there.
+-- A walk by hand: the machine's borrow is opened, the machine copied out and passed to `step`, the one that comes back stored, and the borrow closed there.
 -- Assumes nothing.
--- The slices go to `machine::step` at their own lifetimes, shares and names. The CPU record's borrow is given up for good: what `machine::step` says of the last list is said here.
--- All that the proof knows of `machine::step` is that it meets its contract.
+-- The slices go to `step` at their own lifetimes, shares and names. The CPU record's borrow is given up for good: what `step` says of the last list is said here.
+-- All that the proof knows of `step` is that it meets its contract.
 use mathlib.Core.Path.{_≡_, refl, ap}
 use Prim.Native.Nat.{ℕ, _<_, _^_}
 use mathlib.Core.List.{[], _∷_, List}
@@ -50,14 +50,14 @@ use Rattle.model.proofs.Machine.Laws as T′
 use Rattle.step.proofs.Answer as E
 use Rattle.step.proofs.Answer.Laws as E′
 use Rattle.step.specs.Meaning.{left, leftOf}
-use Rattle.machine.specs.declared.Stepped.{Stepped}
+use Rattle.lent.specs.declared.Stepped.{Stepped}
 use Rattle.lent.proofs.Places.{rest-stayed, rest-goes}
-use Rattle.machine.proofs.Stepped as S
-use Rattle.machine.proofs.Stepped.Laws as S′
-use Rattle.machine.proofs.step as by-value
-use Rattle.machine.proofs.step.Symbol as by-value-def
-use Rattle.machine.proofs.step.Symbol.{name as #machine·step}
-use Rattle.machine.proofs.step.Met as by-value-thm
+use Rattle.lent.proofs.Stepped as S
+use Rattle.lent.proofs.Stepped.Laws as S′
+use Rattle.lent.proofs.step as by-value
+use Rattle.lent.proofs.step.Symbol as by-value-def
+use Rattle.lent.proofs.step.Symbol.{name as #lent·step}
+use Rattle.lent.proofs.step.Met as by-value-thm
 use Rattle.lent.proofs.step_lent.Key.{name as #lent·step-lent}
 use Rattle.lent.proofs.step_lent as here
 use Rattle.lent.proofs.step_lent.Statement as stated
@@ -116,7 +116,7 @@ module _ {M : Type 1} (𝓤 : URA M) (H : Heap 𝓤) (A : Atoms 𝓤) (W : Given
   abbrev Post : Val → SProp 𝓤
   Post = walkOf 𝓤 H A here.ended stayed (here.clauses 𝓤 H A at-mem run) .post (((κ, κs), (q, qs), tt, x, at), tt)
 
-  -- the call, and what `machine::step` says of the result r and the last CPU record l
+  -- the call, and what `step` says of the result r and the last CPU record l
   abbrev asked : StepCall
   asked = record { processor = n; cpu = s₁ .now; memory = s₂ .now; random = s₃ .now; string = s₄ .now }
 
@@ -141,7 +141,7 @@ module _ {M : Type 1} (𝓤 : URA M) (H : Heap 𝓤) (A : Atoms 𝓤) (W : Given
       nothing ! $ nothing ! $ fjoin ! $ nothing ! $ fjoin ! $ nothing ! $ fjoin ! $ move ! (2 ∷ 0 ∷ []) $ fjoin ! $ nothing ! $ fjoin ! $ move ! (1 ∷ 0 ∷ []) $ fjoin ! $
       owned ! E.the-row (Is E.the-row) (EL.makes E.the-type E′.the-plain 𝓤 H A) (r .answer) _ (answer-is r v is) $ move ! (1 ∷ 0 ∷ []) $ done !
 
-  -- what `machine::step` is passed, and that the caller has what it asks
+  -- what `step` is passed, and that the caller has what it asks
   abbrev to-step : Step 𝓤 H A at-mem run .Ghost
   to-step = ((κs, qs, tt, (h, xs), (vals h, ats)), tt)
 
@@ -150,7 +150,7 @@ module _ {M : Type 1} (𝓤 : URA M) (H : Heap 𝓤) (A : Atoms 𝓤) (W : Given
       qed W ((‵ (flft κ₁ q₁) ⊛ ‵ (flft κ₂ q₂) ⊛ ‵ (flft κ₃ q₃) ⊛ ‵ (flft κ₄ q₄) ⊛ ‵ ftrue) ∷ ‵ (T.the-row .own h (vals h)) ∷ ‵ (owns (u8 ∷ MutSlice (named 1) κ₁ u8 ∷ ShrSlice (named 2) κ₂ u8 ∷ ShrSlice (named 3) κ₃ u8 ∷ ShrSlice (named 4) κ₄ u8 ∷ []) xs ats) ∷ []) ∵
       move ! (1 ∷ 2 ∷ []) $ fjoin ! $ move ! (1 ∷ 0 ∷ []) $ join ! $ frame ! $ done !
 
-  module _ (C : Calls 𝓤 H) (Λ : Loops 𝓤 H) (fm : FmC 𝓤 H (W .laws) C) (known : Triple 𝓤 (C #machine·step) (Step 𝓤 H A at-mem run)) where
+  module _ (C : Calls 𝓤 H) (Λ : Loops 𝓤 H) (fm : FmC 𝓤 H (W .laws) C) (known : Triple 𝓤 (C #lent·step) (Step 𝓤 H A at-mem run)) where
     walk : n < 2 ^ 8 → Is (MutSlice (named 1) κ₁ u8) s₁ (value s₁ ∷ []) → Is (ShrSlice (named 2) κ₂ u8) s₂ (value s₂ ∷ []) → Is (ShrSlice (named 3) κ₃ u8) s₃ (value s₃ ∷ []) → Is (ShrSlice (named 4) κ₄ u8) s₄ (value s₄ ∷ [])
         → ent 𝓤 (onEntry 𝓤 H A here.signature (κ, κs) (q, qs) x at) (WpFn 𝓤 H C Λ code.function passed Post)
     walk fits p₁ p₂ p₃ p₄ =
@@ -171,11 +171,11 @@ module _ {M : Type 1} (𝓤 : URA M) (H : Heap 𝓤) (A : Atoms 𝓤) (W : Given
         assigns ! (addr ! (from ! (fld ! refl (hop ! (look-in ! 21 (sub ! 0 refl (whole !))) (stop !))))) (from ! (stop !)) (init ! 9 refl (tt, tt)) $
         assigns ! (agg ! (and-then ! (load ! (from ! (stop !)) (look ! 9 refl)) (and-then ! (load ! (from ! (fld ! refl (stop !))) (look-in ! 21 (sub ! 1 refl (whole !)))) (no-more !)))) (from ! (stop !)) (init ! 7 refl (tt, (tt, (record { fits = p₁ .0 .1 .0 }, tt)))) $
         move ! (5 ∷ 0 ∷ 6 ∷ []) $ use3 W (raw (Step 𝓤 H A at-mem run .pre to-step)) goes-step $
-        -- [what `machine::step` asks; the machine's cell; the open borrow; obs; auth; _10; …; …; room for _0; …]
+        -- [what `step` asks; the machine's cell; the open borrow; obs; auth; _10; …; …; room for _0; …]
         calls-at ! fm (Step 𝓤 H A at-mem run) known to-step (and-then ! (load ! (from ! (stop !)) (look ! 9 refl)) (and-then ! (load ! (from ! (stop !)) (look ! 21 refl)) (and-then ! (load ! (from ! (stop !)) (look ! 5 refl))
         (and-then ! (load ! (from ! (stop !)) (look ! 17 refl)) (and-then ! (load ! (from ! (stop !)) (look ! 15 refl)) (and-then ! (load ! (from ! (stop !)) (look ! 13 refl)) (no-more !))))))) (λ v.
         use1 W (later (some (λ (r : Stepped). ((‵ (flft κ₁ q₁) ⊛ ‵ (flft κ₂ q₂) ⊛ ‵ (flft κ₃ q₃) ⊛ ‵ (flft κ₄ q₄) ⊛ ‵ ftrue) ⊛ ‵ (S.the-row .own r (v ∷ []))) ⊛ raw (ensured 𝓤 H A by-value.ended (by-value.clauses 𝓤 H A at-mem run) κs (h, xs) tt r)))) (id⊢ 𝓤 _) $ await ! tt $ pick ! (λ r.
-        -- what `machine::step` ensures, at some last CPU record
+        -- what `step` ensures, at some last CPU record
         split ! $ move ! (1 ∷ []) $ use1 W (some (λ (zs : Unit {0} × (Unit {0} × (List ℕ × (Unit {0} × (Unit {0} × (Unit {0} × Unit {0})))))). ‵ (lasts by-value.ended κs (h, xs) zs) ⊛ raw (fact 𝓤 (Said r (zs .1 .1 .0))))) (id⊢ 𝓤 _) $ pick ! (λ zs.
         split ! $ move ! (1 ∷ []) $ heard ! (Said r (zs .1 .1 .0)) (λ e. fsplit ! $ drop ! $ fsplit ! $ drop ! $ fsplit ! $ fsplit ! $ move ! (1 ∷ []) $ feqL ! (λ long. move ! (1 ∷ []) $ drop ! $
         move ! (1 ∷ []) $ split ! $ move ! (1 ∷ []) $ peeks ! S.the-row (Is S.the-row) (shows 𝓤 H A S.the-row) r (v ∷ []) (λ is′.
@@ -194,7 +194,7 @@ module _ {M : Type 1} (𝓤 : URA M) (H : Heap 𝓤) (A : Atoms 𝓤) (W : Given
         keep ! (0 ∷ 1 ∷ 2 ∷ 3 ∷ 4 ∷ []) $ by ! (exits r v (zs .1 .1 .0) is′ e long))))))))))))))))))))
 
 module _ {M : Type 1} (𝓤 : URA M) (H : Heap 𝓤) (A : Atoms 𝓤) (W : Given 𝓤 H A) (at-mem : Memory → SProp 𝓤) (run : Routine → Fun 𝓤) where
-  walks : (C : Calls 𝓤 H) (Λ : Loops 𝓤 H) → FmC 𝓤 H (W .laws) C → Triple 𝓤 (C #machine·step) (Step 𝓤 H A at-mem run) → Walks 𝓤 H A here.ended stayed (WpFn 𝓤 H C Λ code.function) (here.clauses 𝓤 H A at-mem run)
+  walks : (C : Calls 𝓤 H) (Λ : Loops 𝓤 H) → FmC 𝓤 H (W .laws) C → Triple 𝓤 (C #lent·step) (Step 𝓤 H A at-mem run) → Walks 𝓤 H A here.ended stayed (WpFn 𝓤 H C Λ code.function) (here.clauses 𝓤 H A at-mem run)
   walks C Λ fm known = walked 𝓤 H A here.ended stayed (here.clauses 𝓤 H A at-mem run) (WpFn 𝓤 H C Λ code.function) (λ κs. (ptr-vals, (uint-vals w8, (slice-vals, (slice-vals, (slice-vals, (slice-vals, tt)))))))
       (λ κs. (mut-tells (named 0) (κs .0) T.the-row, (uint-tells w8, (mut-slice-tells (named 1) (κs .1 .0) u8, (shr-slice-tells (named 2) (κs .1 .1 .0) u8, (shr-slice-tells (named 3) (κs .1 .1 .1 .0) u8, (shr-slice-tells (named 4) (κs .1 .1 .1 .1 .0) u8, tt)))))))
       (λ κs qs bounds a _ are. via 𝓤 _ (fst∗ 𝓤 _ (emp 𝓤)) (walk 𝓤 H A W at-mem run (κs .0) (κs .1 .0) (κs .1 .1 .0) (κs .1 .1 .1 .0) (κs .1 .1 .1 .1 .0) (qs .0) (qs .1 .0) (qs .1 .1 .0) (qs .1 .1 .1 .0) (qs .1 .1 .1 .1 .0)
@@ -203,7 +203,7 @@ module _ {M : Type 1} (𝓤 : URA M) (H : Heap 𝓤) (A : Atoms 𝓤) (W : Given
   goes : AllGo 𝓤 H A W 5 (here.signature .params) (here.ended .kept) stayed
   goes = (goes-ref 𝓤 H A W 5 0 tt (plain (λ _. T.the-row)), rest-goes 5 1 2 3 4 tt tt tt tt 𝓤 H A W)
 
-meets : {M : Type 1} (𝓤 : URA M) (H : Heap 𝓤) (A : Atoms 𝓤) → Given 𝓤 H A → (at-mem : Memory → SProp 𝓤) (run : Routine → Fun 𝓤) (𝓣 : Tables 𝓤 H) → Triple 𝓤 (𝓣 .C #machine·step) (Step 𝓤 H A at-mem run)
+meets : {M : Type 1} (𝓤 : URA M) (H : Heap 𝓤) (A : Atoms 𝓤) → Given 𝓤 H A → (at-mem : Memory → SProp 𝓤) (run : Routine → Fun 𝓤) (𝓣 : Tables 𝓤 H) → Triple 𝓤 (𝓣 .C #lent·step) (Step 𝓤 H A at-mem run)
     → Meets 𝓤 H A here.signature (WpFn 𝓤 H (𝓣 .C) (𝓣 .Λ) code.function) (here.spec 𝓤 H A at-mem run)
 meets 𝓤 H A W at-mem run 𝓣 known =
     walk-meets 𝓤 H A here.ended stayed W (goes 𝓤 H A W at-mem run) (here.clauses 𝓤 H A at-mem run) (WpFn 𝓤 H (𝓣 .C) (𝓣 .Λ) code.function) (WpFn-mono 𝓤 H (W .laws) 𝓣 code.function)
@@ -215,4 +215,4 @@ step-lent-spec 𝓤 H 𝓜 𝓖 𝓡 =
     entered 𝓤 H (tripleOf 𝓤 H (𝓖 .A) here.signature (here.spec 𝓤 H (𝓖 .A) (𝓜 .mem) (𝓡 .run)))
     (tables 𝓤 H 𝓜 𝓡 code.env .C) (tables 𝓤 H 𝓜 𝓡 code.env .Λ) #lent·step-lent code.function (code.unfolded 𝓤 H 𝓜 𝓡)
     (meets 𝓤 H (𝓖 .A) (givenOf 𝓤 H 𝓜 𝓖) (𝓜 .mem) (𝓡 .run) (tablesOf 𝓤 H 𝓜 (tables 𝓤 H 𝓜 𝓡 code.env))
-    (cited 𝓤 H (Step 𝓤 H (𝓖 .A) (𝓜 .mem) (𝓡 .run)) 𝓜 𝓡 code.env #machine·step by-value-def.routine code.calls-machine·step (by-value-thm.met 𝓤 H 𝓜 𝓖 𝓡)))
+    (cited 𝓤 H (Step 𝓤 H (𝓖 .A) (𝓜 .mem) (𝓡 .run)) 𝓜 𝓡 code.env #lent·step by-value-def.routine code.calls-lent·step (by-value-thm.met 𝓤 H 𝓜 𝓖 𝓡)))

@@ -55,10 +55,10 @@ use Rattle.step.specs.declared.Answer.{Answer}
 use Rattle.step.proofs.Answer as E
 use Rattle.step.proofs.Answer.Laws as E′
 use Rattle.step.specs.Meaning.{left, leftOf}
-use Rattle.machine.specs.declared.Stepped.{Stepped}
+use Rattle.lent.specs.declared.Stepped.{Stepped}
 use Rattle.lent.proofs.Places.{rest-stayed, rest-goes}
-use Rattle.machine.proofs.Stepped as S
-use Rattle.machine.proofs.Stepped.Laws as S′
+use Rattle.lent.proofs.Stepped as S
+use Rattle.lent.proofs.Stepped.Laws as S′
 use Rattle.lent.proofs.step_lent as lent
 use Rattle.lent.proofs.step_lent.Symbol as lent-def
 use Rattle.lent.proofs.step_lent.Symbol.{name as #lent·step-lent}

@@ -2,8 +2,8 @@ use mathlib.Core.Path.{_∙_, ap}
 use Rattle.model.specs.declared.Machine.{Machine}
 use Rattle.step.specs.Meaning.{left}
 use borrow.Author.Needs.{needs}
-use Rattle.machine.proofs.step.Statement.{statement}
-use Rattle.machine.proofs.step.Tie as tie
+use Rattle.lent.proofs.step.Statement.{statement}
+use Rattle.lent.proofs.step.Tie as tie
 
 returns : tie.Need-returns
 returns c = ap (λ (m : Machine). left (c .before .before .before .before .step .result .answer) m (c .before .before .before .before .step .last .1 .1 .0)) (c .with-processor .ensures) ∙ c .before .before .before .before .step .ensures
