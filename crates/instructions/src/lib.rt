@@ -1,7 +1,6 @@
 // One instruction, over one IWKey, the CPU record, memory and random data.
 ghost use mathlib.Core.Path.{_≡_};
-ghost use mathlib.Core.Option.{some};
-ghost use Prim.Native.Nat.{_+_, _≤_};
+ghost use Prim.Native.Nat.{ℕ, _+_, _≤_};
 ghost use lib.ListN.{length};
 ghost use Rattle.isa.specs.Ranges.{handleLength};
 ghost use Rattle.keywrap.specs.Meaning.{handleBytes};
@@ -10,7 +9,7 @@ ghost use Rattle.model.specs.Cpu.{cpuSize};
 ghost use Rattle.model.specs.Forms as forms;
 ghost use Rattle.model.specs.Instructions as instructions;
 ghost use Rattle.loadiwkey.specs.Meaning.{randomData, executed};
-ghost use Rattle.instructions.specs.Meaning.{usedAt, executeAt, passed};
+ghost use Rattle.instructions.specs.Meaning.{PlacedAt, Within, passed};
 use aes::Key;
 use aes::word::block_at;
 use aeskl::use_single;
@@ -69,7 +68,7 @@ fn advance(cpu: &mut [u8], bytes: u64)
 fn single(u: Use, at: u64, memory: &[u8], k: IwKey, cpu: &mut [u8])
     requires { ⌜ length (now cpu) ≡ cpuSize ⌝ }
     requires { ⌜ at + handleLength (u .size) ≤ length (now memory) ⌝ }
-    ensures { λ _. ⌜ now (cpu .exit) ≡ usedAt at (now (memory .entry)) (forms.single u) k (now (cpu .entry)) ⌝ }
+    ensures { λ _. ⌜ ((bytes : ℕ) → at ≡ forms.handleAddress (now (cpu .entry)) bytes (u .handle) .linear → now (cpu .exit) ≡ instructions.used (now (memory .entry)) bytes (forms.single u) k (now (cpu .entry))) ⌝ }
 {
     let direction = u.direction;
     let size = u.size;
@@ -81,7 +80,7 @@ fn single(u: Use, at: u64, memory: &[u8], k: IwKey, cpu: &mut [u8])
 fn wide(u: WideUse, at: u64, memory: &[u8], k: IwKey, cpu: &mut [u8])
     requires { ⌜ length (now cpu) ≡ cpuSize ⌝ }
     requires { ⌜ at + handleLength (u .size) ≤ length (now memory) ⌝ }
-    ensures { λ _. ⌜ now (cpu .exit) ≡ usedAt at (now (memory .entry)) (forms.wide u) k (now (cpu .entry)) ⌝ }
+    ensures { λ _. ⌜ ((bytes : ℕ) → at ≡ forms.handleAddress (now (cpu .entry)) bytes (u .handle) .linear → now (cpu .exit) ≡ instructions.used (now (memory .entry)) bytes (forms.wide u) k (now (cpu .entry))) ⌝ }
 {
     let direction = u.direction;
     let size = u.size;
@@ -92,8 +91,8 @@ fn wide(u: WideUse, at: u64, memory: &[u8], k: IwKey, cpu: &mut [u8])
 // What an instruction does but for RIP, and the IWKey after it.
 fn act(what: Instruction, at: u64, memory: &[u8], random: Random, k: IwKey, cpu: &mut [u8]) -> IwKey
     requires { ⌜ length (now cpu) ≡ cpuSize ⌝ }
-    requires { ⌜ ((f : forms.Form) → forms.formOf what ≡ some f → at + handleLength (f .size) ≤ length (now memory)) ⌝ }
-    ensures { λ r. ⌜ executed r (now (cpu .exit)) ≡ executeAt at (now (memory .entry)) (randomData random) what k (now (cpu .entry)) ⌝ }
+    requires { ⌜ Within at (length (now memory)) what ⌝ }
+    ensures { λ r. ⌜ ((bytes : ℕ) → PlacedAt at bytes what (now (cpu .entry)) → executed r (now (cpu .exit)) ≡ instructions.execute (now (memory .entry)) (randomData random) what bytes k (now (cpu .entry))) ⌝ }
 {
     match what {
         Instruction::Use(u) => {
@@ -112,7 +111,7 @@ fn act(what: Instruction, at: u64, memory: &[u8], random: Random, k: IwKey, cpu:
     }
 }
 
-// An instruction of so many bytes that no refusal stops, and the IWKey after it: a use's handle lies in memory at `at`.
+// An instruction of so many bytes that no refusal stops, and the IWKey after it: a use's handle lies in memory at `at`, where its operand says.
 pub fn execute(
     what: Instruction,
     bytes: u64,
@@ -123,8 +122,9 @@ pub fn execute(
     cpu: &mut [u8],
 ) -> IwKey
     requires { ⌜ length (now cpu) ≡ cpuSize ⌝ }
-    requires { ⌜ ((f : forms.Form) → forms.formOf what ≡ some f → at + handleLength (f .size) ≤ length (now memory)) ⌝ }
-    ensures { λ r. ⌜ executed r (now (cpu .exit)) ≡ passed bytes (executeAt at (now (memory .entry)) (randomData random) what k (now (cpu .entry))) ⌝ }
+    requires { ⌜ PlacedAt at bytes what (now cpu) ⌝ }
+    requires { ⌜ Within at (length (now memory)) what ⌝ }
+    ensures { λ r. ⌜ executed r (now (cpu .exit)) ≡ passed bytes (instructions.execute (now (memory .entry)) (randomData random) what bytes k (now (cpu .entry))) ⌝ }
 {
     let key = act(what, at, memory, random, k, cpu);
     advance(cpu, bytes);

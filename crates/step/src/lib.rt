@@ -2,20 +2,18 @@
 ghost use mathlib.Core.Path.{_≡_};
 ghost use mathlib.Core.Bool.{Bool, true};
 ghost use mathlib.Core.List.{[]};
-ghost use mathlib.Core.Option.{some};
-ghost use Rattle.isa.specs.Ranges.{handleLength};
+ghost use Rattle.instructions.specs.Meaning.{PlacedAt, Within};
 ghost use Rattle.isa.specs.declared.Decoded.the-variants as decoded;
 ghost use Rattle.isa.specs.declared.Instruction.{Instruction};
 ghost use Rattle.loadiwkey.specs.Meaning.{randomData};
 ghost use Rattle.loadiwkey.specs.Meaning as loading;
 ghost use Rattle.model.specs.Calls.{step};
 ghost use Rattle.model.specs.Cpu.{cpuSize};
-ghost use Rattle.model.specs.Forms.{Form, formOf, handleAddress};
 ghost use Rattle.model.specs.Instructions as instructions;
 ghost use Rattle.model.specs.Refusals.{randomLength};
 ghost use Rattle.model.specs.Execution as execution;
 ghost use Rattle.model.specs.Records.{withKey, withProcessor};
-ghost use Prim.Native.Nat.{ℕ, _+_, _%_, _≤_};
+ghost use Prim.Native.Nat.{ℕ, _%_};
 ghost use lib.ListN.{length};
 ghost use Rattle.step.specs.declared.Answer.the-variants.{Done, Refused};
 ghost use Rattle.step.specs.Meaning.{left, leftOf};
@@ -62,7 +60,7 @@ fn random_of(random: &[u8]) -> Random
 // What the string's instruction does, with its handle at `at`, and the IWKey after it; a string that holds none does nothing.
 fn executed(d: Decoded, at: u64, memory: &[u8], random: Random, k: IwKey, cpu: &mut [u8]) -> IwKey
     requires { ⌜ length (now cpu) ≡ cpuSize ⌝ }
-    requires { ⌜ ((what : Instruction) (lock : Bool) (bytes : ℕ) → d ≡ decoded.Found what lock bytes → (f : Form) → formOf what ≡ some f → (at ≡ handleAddress (now cpu) bytes (f .handle) .linear) × (at + handleLength (f .size) ≤ length (now memory))) ⌝ }
+    requires { ⌜ ((what : Instruction) (lock : Bool) (bytes : ℕ) → d ≡ decoded.Found what lock bytes → PlacedAt at bytes what (now cpu) × Within at (length (now memory)) what) ⌝ }
     ensures { λ r. ⌜ loading.executed r (now (cpu .exit)) ≡ instructions.stepped (record { processor = 0; cpu = now (cpu .entry); memory = now (memory .entry); random = randomData random; string = [] }) k d ⌝ }
 {
     match d {

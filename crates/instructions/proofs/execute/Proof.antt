@@ -16,7 +16,7 @@ same-length c = search needs
 returns : tie.Need-returns
 returns c =
     let a = c .before .before .before .before .before .before .before .before .before .before .args in
-    (λ j. record { key = c .before .before .before .before .before .before .act .result; cpu = c .before .before .advance .ensures j }) ∙ ap (passed (a .bytes)) (c .before .before .before .before .before .before .act .ensures)
+    (λ j. record { key = c .before .before .before .before .before .before .act .result; cpu = c .before .before .advance .ensures j }) ∙ ap (passed (a .bytes)) (c .before .before .before .before .before .before .act .ensures (a .bytes) (c .before .before .before .before .before .before .before .before .before .before .pre .1 .0))
 
 pub execute-spec : {M : Type 1} → statement M
 execute-spec =

@@ -1,8 +1,6 @@
-use mathlib.Core.Path.{_∙_, ap}
-use mathlib.Core.List.{List, [], _∷_}
-use Prim.Native.Nat.{ℕ}
-use Rattle.model.specs.Cpu.{cpl}
-use Rattle.model.specs.Instructions.{ciphered, openedFor}
+use mathlib.Core.Path.{_∙_}
+use Rattle.model.specs.Forms.{single}
+use Rattle.instructions.proofs.Handles.{used-read}
 use borrow.Author.Needs.{needs}
 use Rattle.instructions.proofs.single.Statement.{statement}
 use Rattle.instructions.proofs.single.Tie as tie
@@ -19,10 +17,7 @@ same-length c = search needs
 returns : tie.Need-returns
 returns c =
     let a = c .before .before .before .before .before .before .before .args in
-    let cpu = a .cpu .now in
-    c .before .before .use-single .ensures
-    ∙ ap (λ (h : List ℕ). ciphered (a .u .direction) (a .u .size) (a .u .block ∷ []) (openedFor (a .k) (cpl cpu) (a .u .size) (a .u .direction) h) cpu)
-    (c .before .before .before .before .handle-at .ensures)
+    λ bytes p. c .before .before .use-single .ensures ∙ used-read (a .memory .now) (a .at) bytes (single (a .u)) (a .k) (a .cpu .now) _ (c .before .before .before .before .handle-at .ensures) p
 
 pub single-spec : {M : Type 1} → statement M
 single-spec =

@@ -1,8 +1,6 @@
-use mathlib.Core.Path.{_∙_, ap}
-use mathlib.Core.List.{List, [], _∷_}
-use Prim.Native.Nat.{ℕ}
-use Rattle.model.specs.Cpu.{cpl}
-use Rattle.model.specs.Instructions.{ciphered, openedFor}
+use mathlib.Core.Path.{_∙_}
+use Rattle.model.specs.Forms.{wide}
+use Rattle.instructions.proofs.Handles.{used-read}
 use borrow.Author.Needs.{needs}
 use Rattle.instructions.proofs.wide.Statement.{statement}
 use Rattle.instructions.proofs.wide.Tie as tie
@@ -19,10 +17,7 @@ same-length c = search needs
 returns : tie.Need-returns
 returns c =
     let a = c .before .before .before .before .before .before .before .args in
-    let cpu = a .cpu .now in
-    c .before .before .use-wide .ensures
-    ∙ ap (λ (h : List ℕ). ciphered (a .u .direction) (a .u .size) (0 ∷ 1 ∷ 2 ∷ 3 ∷ 4 ∷ 5 ∷ 6 ∷ 7 ∷ []) (openedFor (a .k) (cpl cpu) (a .u .size) (a .u .direction) h) cpu)
-    (c .before .before .before .before .handle-at .ensures)
+    λ bytes p. c .before .before .use-wide .ensures ∙ used-read (a .memory .now) (a .at) bytes (wide (a .u)) (a .k) (a .cpu .now) _ (c .before .before .before .before .handle-at .ensures) p
 
 pub wide-spec : {M : Type 1} → statement M
 wide-spec =

@@ -1,7 +1,5 @@
 use mathlib.Core.Path.{_∙_, sym, ap}
 use mathlib.Core.List.{[]}
-use Rattle.instructions.specs.Meaning.{passed}
-use Rattle.instructions.proofs.Placed.{execute-at}
 use Rattle.loadiwkey.specs.Meaning.{randomData}
 use Rattle.model.specs.Calls.{StepCall}
 use Rattle.model.specs.Instructions as instructions
@@ -15,7 +13,8 @@ enum-known-d c = search needs
 execute-requires : tie.Need-execute-requires
 execute-requires c κs =
     let d = c .before .before .d .given in
-    (c .before .before .before .before .before .before .pre .0, λ f e. c .before .before .before .before .before .before .pre .1 (d .0 .0) (d .0 .1 .0) (d .0 .1 .1 .0) (d .1) f e .1)
+    let there = c .before .before .before .before .before .before .pre .1 (d .0 .0) (d .0 .1 .0) (d .0 .1 .1 .0) (d .1) in
+    (c .before .before .before .before .before .before .pre .0, (there .0, there .1))
 
 enum-told : tie.Need-enum-told
 enum-told c = search needs
@@ -30,13 +29,7 @@ returns : tie.Need-returns
 returns c =
     let a = c .before .before .before .before .before .before .before .before .before .args in
     let s : StepCall = record { processor = 0; cpu = a .cpu .now; memory = a .memory .now; random = randomData (a .random); string = [] } in
-    let d = c .before .before .before .before .before .d .given in
-    let bytes = d .0 .1 .1 .0 in
-    c .before .before .execute .ensures
-    ∙ ap (passed bytes)
-    (execute-at (a .at) (a .memory .now) (randomData (a .random)) bytes (a .k) (a .cpu .now) (d .0 .0)
-    (λ f e. c .before .before .before .before .before .before .before .before .before .pre .1 (d .0 .0) (d .0 .1 .0) bytes (d .1) f e .0))
-    ∙ ap (instructions.stepped s (a .k)) (sym (d .1))
+    c .before .before .execute .ensures ∙ ap (instructions.stepped s (a .k)) (sym (c .before .before .before .before .before .d .given .1))
 
 returns-2 : tie.Need-returns-2
 returns-2 c =

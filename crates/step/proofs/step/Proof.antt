@@ -61,11 +61,13 @@ executed-requires c κs =
     let accepted = sym (told (c .before .before .before)) ∙ c .before .before .if2 .left in
     let t = c .before .before .before .step-refusal in (
       cpu-length v s accepted,
-      λ what lock bytes q f r.
-          let at = placed (t .result) _ _ (s .cpu) what bytes f (t .ensures) (c .before .before .if2 .left) (ap (handleLinear (s .cpu)) q) r in (
-            at,
-            subst (λ (n : ℕ). n + handleLength (f .size) ≤ length (s .memory)) (sym at) (handle-fits v s accepted what lock bytes f (sym (c .before .before .before .before .before .decode .ensures) ∙ q) r),
-          ),
+      λ what lock bytes q. (
+        λ f r. placed (t .result) _ _ (s .cpu) what bytes f (t .ensures) (c .before .before .if2 .left) (ap (handleLinear (s .cpu)) q) r,
+        λ f r.
+            subst (λ (n : ℕ). n + handleLength (f .size) ≤ length (s .memory))
+            (sym (placed (t .result) _ _ (s .cpu) what bytes f (t .ensures) (c .before .before .if2 .left) (ap (handleLinear (s .cpu)) q) r))
+            (handle-fits v s accepted what lock bytes f (sym (c .before .before .before .before .before .decode .ensures) ∙ q) r),
+      ),
     )
 
 returns-3 : tie.Need-returns-3
