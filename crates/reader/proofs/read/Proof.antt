@@ -52,10 +52,10 @@ use Rattle.isa.specs.Decode.{decodeAt}
 use Rattle.isa.specs.declared.Decoded.{Decoded}
 use Rattle.isa.proofs.Decoded as E
 use Rattle.isa.proofs.Decoded.Laws as E′
-use Rattle.decoder.proofs.string.decode_at as step
-use Rattle.decoder.proofs.string.decode_at.Symbol as step-def
-use Rattle.decoder.proofs.string.decode_at.Symbol.{name as #decoder·decode-at}
-use Rattle.decoder.proofs.string.decode_at.Met as step-thm
+use Rattle.decoder.proofs.decode_at as step
+use Rattle.decoder.proofs.decode_at.Symbol as step-def
+use Rattle.decoder.proofs.decode_at.Symbol.{name as #decoder·decode-at}
+use Rattle.decoder.proofs.decode_at.Met as step-thm
 use Rattle.reader.specs.Read.{behind}
 use Rattle.reader.specs.declared.Reader.{Reader}
 use Rattle.reader.proofs.Reader as T
@@ -236,5 +236,5 @@ read-spec 𝓤 H 𝓜 𝓖 𝓡 =
     entered 𝓤 H (tripleOf 𝓤 H (𝓖 .A) here.signature (here.spec 𝓤 H (𝓖 .A) (𝓜 .mem) (𝓡 .run)))
     (tables 𝓤 H 𝓜 𝓡 code.env .C) (tables 𝓤 H 𝓜 𝓡 code.env .Λ) #reader·read code.function (code.unfolded 𝓤 H 𝓜 𝓡)
     (meets 𝓤 H (𝓖 .A) (givenOf 𝓤 H 𝓜 𝓖) (𝓜 .mem) (𝓡 .run) (tablesOf 𝓤 H 𝓜 (tables 𝓤 H 𝓜 𝓡 code.env))
-    (cited 𝓤 H (StepAt 𝓤 H (𝓖 .A) (𝓜 .mem) (𝓡 .run)) 𝓜 𝓡 code.env #decoder·decode-at step-def.routine code.calls-decoder·string·decode-at (step-thm.met 𝓤 H 𝓜 𝓖 𝓡))
+    (cited 𝓤 H (StepAt 𝓤 H (𝓖 .A) (𝓜 .mem) (𝓡 .run)) 𝓜 𝓡 code.env #decoder·decode-at step-def.routine code.calls-decoder·decode-at (step-thm.met 𝓤 H 𝓜 𝓖 𝓡))
     (cited 𝓤 H (Place 𝓤 H (𝓖 .A) (𝓜 .mem) (𝓡 .run)) 𝓜 𝓡 code.env #reader·place-behind place-def.routine code.calls-reader·place-behind (place-thm.met 𝓤 H 𝓜 𝓖 𝓡)))
