@@ -1,4 +1,3 @@
 pub mod Columns
-pub mod Equivalent
 pub mod Loops
 pub mod TableCipher

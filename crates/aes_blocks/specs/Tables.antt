@@ -1,4 +1,4 @@
--- Tables of mixed columns, and round keys for the equivalent inverse cipher.
+-- Tables of mixed columns.
 -- Assumes nothing.
 use mathlib.Core.Path.{_≡_}
 use mathlib.Core.List.{List}
@@ -7,18 +7,12 @@ use lib.ListN.{getD}
 use Rattle.bits.specs.Words.{leBytes}
 use Rattle.fips197.specs.Field.{multiply}
 use Rattle.fips197.specs.State.{word}
-use Rattle.fips197.specs.Sbox.{sbox, invSbox}
+use Rattle.fips197.specs.Sbox.{sbox}
 use Rattle.fips197.specs.Cipher.{mixRow}
-use Rattle.fips197.specs.InvCipher.{invMixRow}
-use Rattle.aes.specs.Columns.{mixed}
 
 -- what the byte s in row k makes of a mixed column: column k of the matrix, times s
 abbrev pub part : List ℕ → ℕ → ℕ → List ℕ
 part q s k = word (λ r. multiply s (getD q ((4 + k - r) % 4) 0))
-
--- the products of column 0 of the matrix with the first n bytes
-abbrev pub Products : List ℕ → ℕ → List ℕ → Type 0
-Products q n m = (i : ℕ) → i < n → leBytes 4 (getD m i 0) ≡ part q i 0
 
 -- the first n entries of a table: at i, the part that f of i makes in row 0
 abbrev pub MixTable : List ℕ → (ℕ → ℕ) → ℕ → List ℕ → Type 0
@@ -27,11 +21,3 @@ MixTable q f n t = (i : ℕ) → i < n → leBytes 4 (getD t i 0) ≡ part q (f 
 -- FIPS 197 sections 5.1.1 and 5.1.3: the table of the cipher
 abbrev pub MixedTable : List ℕ → Type 0
 MixedTable t = MixTable mixRow sbox 256 t
-
--- FIPS 197 sections 5.3.2 and 5.3.3: the table of the inverse cipher
-abbrev pub InvMixedTable : List ℕ → Type 0
-InvMixedTable t = MixTable invMixRow invSbox 256 t
-
--- FIPS 197 section 5.3.5: the first n words of a schedule with InvMixColumns applied
-abbrev pub InvMixed : List ℕ → ℕ → List ℕ → Type 0
-InvMixed w n v = (i : ℕ) → i < n → leBytes 4 (getD v i 0) ≡ mixed invMixRow (leBytes 4 (getD w i 0))

@@ -1,33 +1,25 @@
-// Blocks under one key schedule, by a table of mixed columns.
+// Cipher: blocks under one key schedule, by a table of mixed columns.
 ghost use mathlib.Core.Path.{_≡_};
-ghost use Prim.Native.Nat.{_*_, _/_, _≤_};
+ghost use Prim.Native.Nat.{_/_, _≤_};
 ghost use lib.ListN.{length};
 ghost use Rattle.bits.specs.Blocks.{mapBlocks};
 ghost use Rattle.bits.specs.Words.{leWords};
-ghost use Rattle.fips197.specs.Sbox.{InvSboxTable};
-ghost use Rattle.fips197.specs.Cipher.{shiftRows, addRoundKey};
-ghost use Rattle.fips197.specs.InvCipher.{invSubBytes, invShiftRows, invMixRow, invMixColumns, invRound, invCipher};
-ghost use Rattle.aes_blocks.specs.Tables.{Products, InvMixedTable, InvMixed};
+ghost use Rattle.fips197.specs.Cipher.{shiftRows};
 ghost use Rattle.aes_blocks.specs.TableCipher.{tableColumns, tableRound, tableCipher};
 ghost use Rattle.fips197.specs.Sizes.{nr};
 ghost use Rattle.aes.specs.Meaning.{bytesOf, schedule};
 
 pub mod tables;
 
-use crate::tables::inv_mix_table;
-use crate::tables::inv_products;
 use crate::tables::table_column;
 use aes::Block;
 use aes::cipher::add_round_key;
 use aes::cipher::final_round;
 use aes::cipher::round_key;
 use aes::cipher::rounds;
-use aes::inv_cipher::inv_final_round;
-use aes::mix::inv_mix_column;
 use aes::word::block_at;
 use aes::word::put_block;
 use fips197::KeySize;
-use sbox::inverse::inverse_table;
 
 // ShiftRows, then the columns by the table, which has SubBytes and MixColumns in it.
 fn sub_shift_mix(mixed: &[u32; 256], s: Block) -> Block
@@ -59,66 +51,6 @@ fn table_cipher(mixed: &[u32; 256], sbox: &[u8; 256], w: &[u32; 60], n: usize, b
         i += 1;
     }
     final_round(sbox, s, round_key(w, n))
-}
-
-// InvShiftRows, InvSubBytes and InvMixColumns at once.
-fn inv_shift_sub_mix(mixed: &[u32; 256], s: Block) -> Block
-    requires { ⌜ InvMixedTable (now mixed) ⌝ }
-    ensures { λ r. ⌜ bytesOf r ≡ invMixColumns (invSubBytes (invShiftRows (bytesOf s))) ⌝ }
-{
-    Block {
-        a: table_column(mixed, s.a, s.d, s.c, s.b),
-        b: table_column(mixed, s.b, s.a, s.d, s.c),
-        c: table_column(mixed, s.c, s.b, s.a, s.d),
-        d: table_column(mixed, s.d, s.c, s.b, s.a),
-    }
-}
-
-// InvMixColumns of the round keys below n, for the equivalent inverse cipher of FIPS 197 section 5.3.5.
-fn inv_mixed_keys(w: &[u32; 60], n: usize) -> [u32; 60]
-    requires { ⌜ n ≤ 14 ⌝ }
-    ensures { λ r. ⌜ InvMixed (now (w .entry)) (4 * n) r ⌝ }
-{
-    let mut dw = [0u32; 60];
-    let mut i: usize = 0;
-    while i < 4 * n {
-        let x = inv_mix_column(w[i]);
-        dw[i] = x;
-        i += 1;
-    }
-    dw
-}
-
-// A round of the equivalent inverse cipher: its key comes after InvMixColumns.
-fn table_inv_round(mixed: &[u32; 256], s: Block, k: Block) -> Block
-    requires { ⌜ InvMixedTable (now mixed) ⌝ }
-    ensures { λ r. ⌜ bytesOf r ≡ addRoundKey (invMixColumns (invSubBytes (invShiftRows (bytesOf s)))) (bytesOf k) ⌝ }
-{
-    add_round_key(inv_shift_sub_mix(mixed, s), k)
-}
-
-fn table_inv_cipher(
-    mixed: &[u32; 256],
-    inverse: &[u8; 256],
-    w: &[u32; 60],
-    dw: &[u32; 60],
-    n: usize,
-    b: Block,
-) -> Block
-    requires { ⌜ InvMixedTable (now mixed) ⌝ }
-    requires { ⌜ InvSboxTable (now inverse) ⌝ }
-    requires { ⌜ InvMixed (now w) (4 * n) (now dw) ⌝ }
-    requires { ⌜ (1 ≤ n) × (n ≤ 14) ⌝ }
-    ensures { λ r. ⌜ bytesOf r ≡ invCipher (leWords 4 (now (w .entry))) n (bytesOf b) ⌝ }
-{
-    let mut s = add_round_key(b, round_key(w, n));
-    let mut i: usize = n - 1;
-    while 0 < i {
-        let x = table_inv_round(mixed, s, round_key(dw, i));
-        s = x;
-        i -= 1;
-    }
-    inv_final_round(inverse, s, round_key(w, 0))
 }
 
 // One block, by lent tables, whatever they hold; with the right ones this is Cipher (`cipher-by` in proofs/TableCipher.antt).
@@ -153,93 +85,4 @@ pub fn encrypt_blocks_with(
         put_block(bytes, at, b);
         i += 1;
     }
-}
-
-// Every whole block of the bytes, by lent tables and mixed round keys.
-fn decrypt_blocks_with(
-    mixed: &[u32; 256],
-    inverse: &[u8; 256],
-    dw: &[u32; 60],
-    size: KeySize,
-    w: &[u32; 60],
-    bytes: &mut [u8],
-)
-    requires { ⌜ InvMixedTable (now mixed) ⌝ }
-    requires { ⌜ InvSboxTable (now inverse) ⌝ }
-    requires { ⌜ InvMixed (now w) (4 * nr size) (now dw) ⌝ }
-    ensures { λ _. ⌜ now (bytes .exit) ≡ mapBlocks (invCipher (schedule size (now (w .entry))) (nr size)) (length (now (bytes .entry)) / 16) (now (bytes .entry)) ⌝ }
-{
-    let n = rounds(size);
-    let count = bytes.len() / 16;
-    let mut i: usize = 0;
-    while i < count {
-        let at = 16 * i;
-        let b = table_inv_cipher(mixed, inverse, w, dw, n, block_at(bytes, at));
-        put_block(bytes, at, b);
-        i += 1;
-    }
-}
-
-// Every whole block of the bytes; what is left at the end stays.
-pub fn decrypt_blocks(size: KeySize, w: &[u32; 60], bytes: &mut [u8])
-    ensures { λ _. ⌜ now (bytes .exit) ≡ mapBlocks (invCipher (schedule size (now (w .entry))) (nr size)) (length (now (bytes .entry)) / 16) (now (bytes .entry)) ⌝ }
-{
-    let inverse = inverse_table();
-    let mut mixed = [0u32; 256];
-    inv_mix_table(&inverse, &mut mixed);
-    let dw = inv_mixed_keys(w, rounds(size));
-    decrypt_blocks_with(&mixed, &inverse, &dw, size, w, bytes);
-}
-
-// ---- one block deciphered: neither the S-box in the table nor mixed round keys would pay
-
-fn inv_mix_by(products: &[u32; 256], s: Block) -> Block
-    requires { ⌜ Products invMixRow 256 (now products) ⌝ }
-    ensures { λ r. ⌜ bytesOf r ≡ invMixColumns (bytesOf s) ⌝ }
-{
-    Block {
-        a: table_column(products, s.a, s.a, s.a, s.a),
-        b: table_column(products, s.b, s.b, s.b, s.b),
-        c: table_column(products, s.c, s.c, s.c, s.c),
-        d: table_column(products, s.d, s.d, s.d, s.d),
-    }
-}
-
-fn inv_round_by(products: &[u32; 256], inverse: &[u8; 256], s: Block, k: Block) -> Block
-    requires { ⌜ Products invMixRow 256 (now products) ⌝ }
-    requires { ⌜ InvSboxTable (now inverse) ⌝ }
-    ensures { λ r. ⌜ bytesOf r ≡ invRound (bytesOf s) (bytesOf k) ⌝ }
-{
-    inv_mix_by(products, inv_final_round(inverse, s, k))
-}
-
-fn inv_cipher_by(
-    products: &[u32; 256],
-    inverse: &[u8; 256],
-    w: &[u32; 60],
-    n: usize,
-    b: Block,
-) -> Block
-    requires { ⌜ Products invMixRow 256 (now products) ⌝ }
-    requires { ⌜ InvSboxTable (now inverse) ⌝ }
-    requires { ⌜ (1 ≤ n) × (n ≤ 14) ⌝ }
-    ensures { λ r. ⌜ bytesOf r ≡ invCipher (leWords 4 (now (w .entry))) n (bytesOf b) ⌝ }
-{
-    let mut s = add_round_key(b, round_key(w, n));
-    let mut i: usize = n - 1;
-    while 0 < i {
-        let x = inv_round_by(products, inverse, s, round_key(w, i));
-        s = x;
-        i -= 1;
-    }
-    inv_final_round(inverse, s, round_key(w, 0))
-}
-
-pub fn decrypt_block(size: KeySize, w: &[u32; 60], b: Block) -> Block
-    ensures { λ r. ⌜ bytesOf r ≡ invCipher (schedule size (now (w .entry))) (nr size) (bytesOf b) ⌝ }
-{
-    let inverse = inverse_table();
-    let mut products = [0u32; 256];
-    inv_products(&mut products);
-    inv_cipher_by(&products, &inverse, w, rounds(size), b)
 }

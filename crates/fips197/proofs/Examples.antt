@@ -12,7 +12,7 @@ use Rattle.fips197.specs.KeyExpansion.{wordAt, roundKey, addWords, subWo
 use Rattle.fips197.specs.Aes.{encrypt}
 
 -- encrypt, with all that it computes by
-computed : ℕ → List ℕ → List ℕ → List ℕ
+unfoldable pub computed : ℕ → List ℕ → List ℕ → List ℕ
 unfolding encrypt cipher rounds finalRound round addRoundKey mixColumns mixBy matrixRow shiftRows subBytes
     wordAt roundKey addWords subWord rotWord power rcon transformed nextWord expanded keyExpansion
     xtime multiplyBits square next inverse bit fromBits affine sbox

@@ -3,7 +3,7 @@
 ghost use mathlib.Core.Path.{_≡_};
 ghost use Rattle.isa.specs.Decode as isa;
 ghost use Rattle.reader.specs.Read.{behind};
-use decoder::string::decode_at;
+use decoder::decode_at;
 use isa::Decoded;
 
 // The instruction string and the place up to which it was read.

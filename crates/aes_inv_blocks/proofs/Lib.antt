@@ -1,0 +1,2 @@
+mod Equivalent
+mod Products

@@ -1,0 +1,43 @@
+use native.Mathlib.Omega.{arith}
+use Rattle.aes.proofs.Schedule.{rounds-few}
+use borrow.Author.Needs.{needs}
+use Rattle.aes_inv_blocks.proofs.decrypt_blocks.Statement.{statement}
+use Rattle.aes_inv_blocks.proofs.decrypt_blocks.Tie as tie
+
+inverse-table-requires : tie.Need-inverse-table-requires
+inverse-table-requires c κs = search needs
+
+inv-mix-table-requires : tie.Need-inv-mix-table-requires
+inv-mix-table-requires c κs = search needs
+
+rounds-requires : tie.Need-rounds-requires
+rounds-requires c κs = search needs
+
+inv-mixed-keys-requires : tie.Need-inv-mixed-keys-requires
+inv-mixed-keys-requires c κs =
+    let few = rounds-few (c .before .before .before .before .before .before .args .size) in
+    omega (arith, c .rounds .ensures)
+
+decrypt-blocks-with-requires : tie.Need-decrypt-blocks-with-requires
+decrypt-blocks-with-requires c κs =
+    let rule = c .before .before .before .before .before .before .before .before .before .inverse-table .ensures in
+    let e = c .before .before .before .before .before .rounds .ensures in
+    (c .before .before .before .before .before .before .inv-mix-table .ensures, (rule, λ i h. c .before .before .before .before .inv-mixed-keys .ensures i (omega arith)))
+
+same-length : tie.Need-same-length
+same-length c = search needs
+
+returns : tie.Need-returns
+returns c = search needs
+
+pub decrypt-blocks-spec : {M : Type 1} → statement M
+decrypt-blocks-spec =
+    tie.close
+    (tie.spec
+    inverse-table-requires
+    inv-mix-table-requires
+    rounds-requires
+    inv-mixed-keys-requires
+    decrypt-blocks-with-requires
+    same-length
+    returns)
