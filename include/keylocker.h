@@ -32,7 +32,7 @@
 #define KEYLOCKER_VERSION "1.0.0"
 
 /* bytes of stack that a call needs at most */
-#define KEYLOCKER_STACK_SIZE 9984
+#define KEYLOCKER_STACK_SIZE 8192
 
 #ifdef __cplusplus
 extern "C" {

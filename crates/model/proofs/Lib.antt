@@ -17,4 +17,3 @@ pub mod InPlace
 pub mod Lent
 pub mod Examples
 pub mod Computed
-pub mod Inhabited

@@ -1,4 +1,4 @@
-// The emulated machine: its records. The definitions are in specs/, the laws in proofs/; the code is in `machine`.
+// The emulated machine: its records. The definitions are in specs/, the laws in proofs/; the code is in `step` and `machine`.
 
 // The scope, "Records". Flags are bytes, 0 or 1.
 pub struct IwKey {
