@@ -258,7 +258,7 @@ static const char *label_of(const struct row *row)
     return label;
 }
 
-static const struct bar bar = {"encode, use", 0, BYTES, 0.70};
+static const struct bar bar = {"encode, use", 0, BYTES, 0.62};
 static const struct bar goal = {"encode, use", 0, TTABLES, 1.00};
 
 // All of a use but its cryptography is what one takes whose handle is illegal: it is read, and not unwrapped.
