@@ -14,7 +14,7 @@ pub struct Stepped {
     pub answer: Answer,
 }
 
-pub fn step(
+fn step(
     m: Machine,
     processor: u8,
     cpu: &mut [u8],
