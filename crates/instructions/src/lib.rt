@@ -1,15 +1,18 @@
 // One instruction, over one IWKey, the CPU record, memory and random data.
 ghost use mathlib.Core.Path.{_≡_};
+ghost use mathlib.Core.Bool.{Bool};
+ghost use mathlib.Core.List.{[]};
 ghost use Prim.Native.Nat.{ℕ, _+_, _≤_};
 ghost use lib.ListN.{length};
 ghost use Rattle.isa.specs.Ranges.{handleLength};
+ghost use Rattle.isa.specs.declared.Decoded.the-variants as decoded;
 ghost use Rattle.keywrap.specs.Meaning.{handleBytes};
 ghost use Rattle.model.specs.Numbers.{part};
 ghost use Rattle.model.specs.Cpu.{cpuSize};
 ghost use Rattle.model.specs.Forms as forms;
 ghost use Rattle.model.specs.Instructions as instructions;
 ghost use Rattle.loadiwkey.specs.Meaning.{randomData, executed};
-ghost use Rattle.instructions.specs.Meaning.{PlacedAt, Within, passed};
+ghost use Rattle.instructions.specs.Meaning.{PlacedAt, Within};
 use aes::Key;
 use aes::word::block_at;
 use aeskl::use_single;
@@ -124,7 +127,7 @@ pub fn execute(
     requires { ⌜ length (now cpu) ≡ cpuSize ⌝ }
     requires { ⌜ PlacedAt at bytes what (now cpu) ⌝ }
     requires { ⌜ Within at (length (now memory)) what ⌝ }
-    ensures { λ r. ⌜ executed r (now (cpu .exit)) ≡ passed bytes (instructions.execute (now (memory .entry)) (randomData random) what bytes k (now (cpu .entry))) ⌝ }
+    ensures { λ r. ⌜ ((lock : Bool) → executed r (now (cpu .exit)) ≡ instructions.stepped (record { processor = 0; cpu = now (cpu .entry); memory = now (memory .entry); random = randomData random; string = [] }) k (decoded.Found what lock bytes)) ⌝ }
 {
     let key = act(what, at, memory, random, k, cpu);
     advance(cpu, bytes);

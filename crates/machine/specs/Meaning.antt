@@ -4,5 +4,6 @@ use Rattle.model.specs.Calls as calls
 use Rattle.step.specs.Meaning.{answerOf}
 use Rattle.machine.specs.declared.Outcome.{Outcome}
 
+-- the machine, answer and value of the model's call; the scope, "Turned back", has the numbers of the answers
 abbrev pub outcomeOf : calls.Outcome → Outcome
 outcomeOf o = record { machine = o .machine; answer = answerOf (o .answer .number); value = o .answer .value }

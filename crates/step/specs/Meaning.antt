@@ -14,7 +14,7 @@ abbrev pub numberOf : Answer → ℕ
 numberOf Done = 0
 numberOf (Refused n) = n
 
--- the answer of a number
+-- the scope, "Turned back": the answer of a number, 0 for none
 abbrev pub answerOf : ℕ → Answer
 answerOf n = cond (eqb n 0) Done (Refused n)
 
@@ -28,6 +28,6 @@ pub record Left : Type 0 where
 abbrev pub left : Answer → Machine → List ℕ → Left
 left a m c = record { answer = a; machine = m; cpu = c }
 
--- what the model's call leaves: where it is refused, machine and CPU record as they were lent
+-- what the model's call leaves; the scope, "Turned back", of one that is refused: "Each leaves machine, CPU record and memory unchanged"
 abbrev pub leftOf : calls.Outcome → Left
 leftOf o = left (answerOf (o .answer .number)) (o .machine) (o .answer .cpu)

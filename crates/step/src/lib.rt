@@ -91,7 +91,7 @@ fn done(e: Processor, key: IwKey) -> Effect
     }
 }
 
-// A processor past the last has no entry; such a step is refused.
+// The machine with this entry in its place is what the model's call leaves. A step of a processor that has no entry is refused, and gives the one that it found.
 pub fn step(
     m: Machine,
     processor: u8,

@@ -29,7 +29,7 @@ returns : tie.Need-returns
 returns c =
     let a = c .before .before .before .before .before .before .before .before .before .args in
     let s : StepCall = record { processor = 0; cpu = a .cpu .now; memory = a .memory .now; random = randomData (a .random); string = [] } in
-    c .before .before .execute .ensures ∙ ap (instructions.stepped s (a .k)) (sym (c .before .before .before .before .before .d .given .1))
+    c .before .before .execute .ensures (c .before .before .before .before .before .d .given .0 .1 .0) ∙ ap (instructions.stepped s (a .k)) (sym (c .before .before .before .before .before .d .given .1))
 
 returns-2 : tie.Need-returns-2
 returns-2 c =
