@@ -10,11 +10,11 @@
  *     answer = keylocker_step(machine, sizeof machine, 0, cpu, sizeof cpu, memory, memory_len, NULL, 0, string, string_len);
  *
  * Every call answers KEYLOCKER_DONE (0), or the number of the refusal that stopped it. A refused call writes nothing: the machine block, the CPU record
- * and *value are as they were.
+ * and the numbers that it would have answered with are as they were.
  *
  * The caller need not check anything: every combination of arguments gets an answer. Lengths, contents and numbers are checked by the call, none is
  * assumed, and byte buffers need no alignment. What the caller owes is valid C, and stack:
- *   - behind each pointer at least as many bytes as the length says, and a uint64_t behind value; a null pointer only with length 0;
+ *   - behind each pointer at least as many bytes as the length says, and a number behind value, eax, ebx, ecx and edx; a null pointer only with length 0;
  *   - no two buffers of a call overlap (a string that lies in guest memory is copied first);
  *   - no other thread uses a buffer while a call may write it;
  *   - below the caller's own frame KEYLOCKER_STACK_SIZE bytes of stack: no call goes deeper. Signal handlers on the same stack need theirs besides, and
@@ -29,7 +29,7 @@
 #include <stddef.h>
 #include <stdint.h>
 
-#define KEYLOCKER_VERSION "1.0.0"
+#define KEYLOCKER_VERSION "1.1.0"
 
 /* bytes of stack that a call needs at most */
 #define KEYLOCKER_STACK_SIZE 8192
@@ -85,7 +85,7 @@ extern "C" {
 /* ---- the CPU record ----
  *
  * XMM0 to XMM15, 16 bytes each, byte 0 of a register first; RAX, RCX, RDX, RBX, RSP, RBP, RSI, RDI, R8 to R15, 8 bytes each; RIP; RFLAGS;
- * CPL (0 to 3); control bits; zeros. It is the host's: no call but keylocker_step looks at it, and sleep and reset leave it. */
+ * CPL (0 to 3); control bits; zeros. It is the host's: no call but keylocker_step and keylocker_cpuid looks at it, and sleep and reset leave it. */
 #define KEYLOCKER_CPU_XMM 0                                   /* XMM0; XMM n is 16 n further on */
 #define KEYLOCKER_CPU_REGISTERS (KEYLOCKER_CPU_XMM + 16 * 16) /* RAX; register n, by the numbers below, is 8 n further on */
 #define KEYLOCKER_CPU_RIP (KEYLOCKER_CPU_REGISTERS + 16 * 8)
@@ -175,6 +175,25 @@ uint32_t keylocker_power_on(uint8_t *machine, size_t machine_len, uint8_t count,
  * Answer 0 does not say that a handle opened or a key was loaded: ZF is 0 if so. Where it is 1, blocks and IWKey are as they were. */
 uint32_t keylocker_step(uint8_t *machine, size_t machine_len, uint8_t processor, uint8_t *cpu, size_t cpu_len, const uint8_t *memory, size_t memory_len,
                         const uint8_t *random, size_t random_len, const uint8_t *string, size_t string_len);
+
+/* CPUID on a processor with this CPU record, at any CPL, from the machine's features and CR4.KL: leaf 7 with subleaf 0, and leaf 0x19 whatever the subleaf;
+ * zeros for every other leaf or subleaf, and for leaf 0x19 without the KL feature. All bits without a name here are 0. The four numbers are written where the
+ * answer is 0, and nothing else ever is: neither the CPU record's registers nor its RIP. Answers 0, KEYLOCKER_BAD_MACHINE, KEYLOCKER_BAD_CPU_SIZE or
+ * KEYLOCKER_BAD_CPU.
+ *
+ * A job may use handles where KEYLOCKER_CPUID_7_ECX_KL and then KEYLOCKER_CPUID_19_EBX_AESKLE are set; an operating system asks for the first before it sets
+ * CR4.KL. CR0 and CR4.OSFXSR do not show here: an instruction still gives #UD or #NM by them. */
+#define KEYLOCKER_CPUID_7_ECX_KL 0x800000     /* Key Locker, and with it leaf 0x19 */
+#define KEYLOCKER_CPUID_19_EAX_CPL0_ONLY 0x1  /* the three restrictions of handles: always supported */
+#define KEYLOCKER_CPUID_19_EAX_NO_ENCRYPT 0x2
+#define KEYLOCKER_CPUID_19_EAX_NO_DECRYPT 0x4
+#define KEYLOCKER_CPUID_19_EBX_AESKLE 0x1     /* encodes and uses are enabled: by firmware, and by CR4.KL */
+#define KEYLOCKER_CPUID_19_EBX_WIDE_KL 0x4    /* the wide forms */
+#define KEYLOCKER_CPUID_19_EBX_BACKUP 0x10    /* the backup registers */
+#define KEYLOCKER_CPUID_19_ECX_NO_BACKUP 0x1  /* LOADIWKEY may set NoBackup */
+#define KEYLOCKER_CPUID_19_ECX_RANDOM 0x2     /* LOADIWKEY may use key source 1 */
+uint32_t keylocker_cpuid(const uint8_t *machine, size_t machine_len, const uint8_t *cpu, size_t cpu_len, uint32_t leaf, uint32_t subleaf,
+                         uint32_t *eax, uint32_t *ebx, uint32_t *ecx, uint32_t *edx);
 
 /* Backup registers: IA32_COPY_STATUS and IA32_IWKEYBACKUP_STATUS are read, the two copy registers written with 1 (0 does nothing). */
 #define KEYLOCKER_COPY_STATUS 0x990
