@@ -1,12 +1,11 @@
 // The scope, "Turned back": the tests 3 to 14, in its order. Each function gives the number of the first of its tests that holds, or 0.
 ghost use mathlib.Core.Path.{_≡_};
 ghost use mathlib.Core.Bool.{Bool, true, false, cond};
-ghost use Prim.Native.Nat.{ℕ, _<_};
+ghost use Prim.Native.Nat.{ℕ};
 ghost use lib.Dec.{leb, ltb};
 ghost use lib.ListN.{length};
 ghost use Rattle.isa.specs.declared.Decoded as decoded;
 ghost use Rattle.isa.specs.declared.Decoded.the-variants.{Found};
-ghost use Rattle.model.specs.Numbers as numbers;
 ghost use Rattle.model.specs.Cpu.{cpuSize};
 ghost use Rattle.model.specs.Forms.{handleAddress, formOf};
 ghost use Rattle.model.specs.Calls.{read, write};
@@ -15,6 +14,11 @@ ghost use Rattle.refusals.specs.Parts.{within, tested, loadedFrom, handl
 use address::effective_address;
 use address::some_not_canonical;
 use address::some_outside;
+use cpu::CR0_EM;
+use cpu::CR0_TS;
+use cpu::CR4_KL;
+use cpu::CR4_OSFXSR;
+use cpu::bit;
 use cpu::control;
 use cpu::cpl;
 use cpu::register;
@@ -26,28 +30,12 @@ use isa::Decoded;
 use isa::Instruction;
 use isa::Operand;
 use isa::Segment;
-
-// Bits of the feature byte.
-const KEY_LOCKER: u8 = 0;
-
-const FIRMWARE_ENABLED: u8 = 1;
-
-const WIDE_FORMS: u8 = 2;
-
-const BACKUP_REGISTERS: u8 = 3;
-
-const NO_BACKUP: u8 = 4;
-
-const RANDOM_SOURCE: u8 = 5;
-
-// Control bits of the CPU record.
-const CR4_KL: u8 = 0;
-
-const CR4_OSFXSR: u8 = 1;
-
-const CR0_EM: u8 = 2;
-
-const CR0_TS: u8 = 3;
+use model::BACKUP_REGISTERS;
+use model::FIRMWARE_ENABLED;
+use model::KEY_LOCKER;
+use model::NO_BACKUP;
+use model::RANDOM_SOURCE;
+use model::WIDE_FORMS;
 
 const CPU_SIZE: usize = 408;
 
@@ -59,13 +47,6 @@ const RANDOM_SIZE: usize = 48;
 pub struct Tested {
     pub number: u8,
     pub linear: u64,
-}
-
-fn bit(i: u8, x: u8) -> bool
-    requires { ⌜ i < 8 ⌝ }
-    ensures { λ r. ⌜ r ≡ numbers.bit i x ⌝ }
-{
-    (x >> i) % 2 == 1
 }
 
 // ---- 10 and 11
