@@ -1,8 +1,8 @@
 // The scope, "Turned back": the tests 3 to 14, in its order. Each function gives the number of the first of its tests that holds, or 0.
 ghost use mathlib.Core.Path.{_≡_};
-ghost use mathlib.Core.Bool.{Bool, true, false, cond};
+ghost use mathlib.Core.Bool.{Bool, true, false, cond, not};
 ghost use Prim.Native.Nat.{ℕ};
-ghost use lib.Dec.{leb, ltb};
+ghost use lib.Dec.{eqb, leb, ltb};
 ghost use lib.ListN.{length};
 ghost use Rattle.isa.specs.declared.Decoded as decoded;
 ghost use Rattle.isa.specs.declared.Decoded.the-variants.{Found};
@@ -10,7 +10,7 @@ ghost use Rattle.model.specs.Cpu.{cpuSize};
 ghost use Rattle.model.specs.Forms.{handleAddress, formOf};
 ghost use Rattle.model.specs.Calls.{read, write};
 ghost use Rattle.model.specs.Refusals.{View, stepRefusal, refusal, needsFirmware, needsWide, invalidOpcode, noMath, loadFault, encodeFault, inSegment, canonicalFault, outside, noRegisters};
-ghost use Rattle.refusals.specs.Parts.{within, tested, loadedFrom, handleLinear};
+ghost use Rattle.refusals.specs.Parts.{within, badRecord, tested, loadedFrom, handleLinear};
 use address::effective_address;
 use address::some_not_canonical;
 use address::some_outside;
@@ -219,6 +219,29 @@ fn instruction_refusal(
     operand_refusal(features, cpu, memory, what, bytes)
 }
 
+// ---- a CPU record
+
+// 5, for a record of the right length.
+fn record_fault(cpu: &[u8]) -> bool
+    requires { ⌜ length (now cpu) ≡ cpuSize ⌝ }
+    ensures { λ r. ⌜ r ≡ badRecord (now (cpu .entry)) ⌝ }
+{
+    (3 < cpl(cpu)) | zero_field_set(cpu)
+}
+
+// 4 and 5: all that CPUID asks of its CPU record.
+pub fn cpuid_refusal(cpu: &[u8]) -> u8
+    ensures { λ r. ⌜ r ≡ cond (not (eqb (length (now (cpu .entry))) cpuSize)) 4 (cond (badRecord (now (cpu .entry))) 5 0) ⌝ }
+{
+    if cpu.len() != CPU_SIZE {
+        return 4;
+    }
+    if record_fault(cpu) {
+        return 5;
+    }
+    0
+}
+
 // ---- a step
 
 // 5 to 7: CPU record, guest memory and random data.
@@ -226,7 +249,7 @@ fn record_refusal(cpu: &[u8], memory: usize, random: usize) -> u8
     requires { ⌜ length (now cpu) ≡ cpuSize ⌝ }
     ensures { λ r. ⌜ ((v : View) (processor : ℕ) (d : decoded.Decoded) → r ≡ within 5 7 v (record { processor = processor; cpu = now (cpu .entry); memory = memory; random = random; decoded = d })) ⌝ }
 {
-    if (3 < cpl(cpu)) | zero_field_set(cpu) {
+    if record_fault(cpu) {
         return 5;
     }
     if MEMORY_LIMIT < memory {
