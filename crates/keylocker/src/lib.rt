@@ -168,7 +168,7 @@ pub extern "C" fn keylocker_cpuid(
     let registers = x.registers;
     let answer = x.answer;
     match answer {
-        Answer::Refused(n) => n as u32,
+        Answer::Refused(refused) => refused as u32,
         Answer::Done => {
             *eax = registers.eax;
             *ebx = registers.ebx;
