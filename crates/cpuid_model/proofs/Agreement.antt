@@ -4,7 +4,7 @@
 use mathlib.Core.Path.{_≡_, refl, sym, ap, _∙_}
 use mathlib.Core.Bool.{Bool, true, false, cond, not, _&&_, _||_}
 use mathlib.Core.List.{List}
-use Prim.Native.Nat.{ℕ, _+_, _^_, _/_, _%_}
+use Prim.Native.Nat.{ℕ, _^_, _/_}
 use lib.Dec.{eqb, ltb}
 use lib.ListN.{replicate}
 use Rattle.bits.proofs.Choice.{cond-off}
@@ -15,17 +15,16 @@ use Rattle.model.specs.Forms.{noBackup, keySource}
 use Rattle.model.specs.Validity.{valid}
 use Rattle.model.specs.Refusals.{View, first, between, Asked, tests, ofStep, invalidOpcode, loadFault, encodeFault, noRegisters}
 use Rattle.model.specs.declared.Machine.{Machine}
-use Rattle.cpuid_model.specs.Leaves.{zeroLeaf, bitIf, aeskle, cpuid}
+use Rattle.cpuid_model.specs.Leaves.{zeroLeaf, bitIf, aeskle, table, cpuid}
 use Rattle.cpuid_model.specs.Calls.{refusal}
 use Rattle.cpuid_model.specs.Exceptions as intel
 use Rattle.cpuid_model.specs.declared.Leaf.{Leaf}
 
 -- ---- the bits
 
--- leaf 0x19 over what it tells
+-- table 2-1 with Key Locker, zeros without
 abbrev told : (k a w b x y : Bool) → Leaf
-told k a w b x y =
-    cond k (record { eax = 2 ^ 0 + 2 ^ 1 + 2 ^ 2; ebx = bitIf 0 a + bitIf 2 w + bitIf 4 b; ecx = bitIf 0 x + bitIf 1 y; edx = 0 }) zeroLeaf
+told k a w b x y = cond k (table a w b x y) zeroLeaf
 
 ebx-bits : (k a w b x y : Bool) → let l = told k a w b x y in (bit 0 (l .ebx) ≡ k && a) × (bit 2 (l .ebx) ≡ k && w) × (bit 4 (l .ebx) ≡ k && b)
 ebx-bits false a w b x y = (refl, refl, refl)

@@ -1,3 +1,4 @@
 pub mod Choices
 pub mod Calls
 pub mod Agreement
+pub mod Examples

@@ -22,15 +22,20 @@ leaf7 features = record { eax = 0; ebx = 0; ecx = bitIf 23 (keyLocker features);
 abbrev pub aeskle : ℕ → ℕ → Bool
 aeskle features control = keyLocker features && (firmwareEnabled features && cr4Kl control)
 
--- table 2-1. EAX: the restrictions CPL0-only, no-encrypt and no-decrypt; EBX: AESKLE, WIDE_KL, the IWKeyBackup MSRs; ECX: NoBackup, KeySource 1
-abbrev pub leaf19 : ℕ → ℕ → Leaf
-leaf19 features control =
+-- table 2-1, by what it tells. EAX: the restrictions CPL0-only, no-encrypt and no-decrypt; EBX: AESKLE, WIDE_KL, the IWKeyBackup MSRs; ECX: NoBackup,
+-- KeySource 1
+abbrev pub table : (aeskle wideKl backup noBackup random : Bool) → Leaf
+table aeskle wideKl backup noBackup random =
     record {
       eax = 2 ^ 0 + 2 ^ 1 + 2 ^ 2;
-      ebx = bitIf 0 (aeskle features control) + bitIf 2 (wideForms features) + bitIf 4 (backupRegisters features);
-      ecx = bitIf 0 (noBackupSupported features) + bitIf 1 (randomSource features);
+      ebx = bitIf 0 aeskle + bitIf 2 wideKl + bitIf 4 backup;
+      ecx = bitIf 0 noBackup + bitIf 1 random;
       edx = 0;
     }
+
+abbrev pub leaf19 : ℕ → ℕ → Leaf
+leaf19 features control =
+    table (aeskle features control) (wideForms features) (backupRegisters features) (noBackupSupported features) (randomSource features)
 
 -- "Any other leaf or subleaf of 7 answers zero, and leaf 0x19 without KL does too." Table 2-1 names no subleaf of 0x19.
 unfoldable pub cpuid : ℕ → ℕ → ℕ → ℕ → Leaf
