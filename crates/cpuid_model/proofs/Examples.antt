@@ -45,4 +45,4 @@ Hold (c ∷ l) = (cpuid (c .features) (c .control) (c .leaf) (c .subleaf) ≡ c 
 
 pub worked : Hold cases
 unfolding cpuid
-worked = (refl, refl, refl, refl, refl, refl, refl, refl, refl, refl, refl, refl, tt)
+worked = (refl, (refl, (refl, (refl, (refl, (refl, (refl, (refl, (refl, (refl, (refl, (refl, tt))))))))))))
