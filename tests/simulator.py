@@ -204,8 +204,8 @@ def altered(line):
 def test_unmet_by_refused(tmp):
     """What a refused call would have answered is not taken from the call before."""
     head = "power-on 1\ncpu 0 loadiwkey 00*48\ncpu 0 read 0x990\ncpu 0 cpuid 0x19\n"
-    for refused, expect in [("cpu 0 step empty", "zf 0"), ("cpu 0 read 0x992", "value 0"), ("cpu 0 cpl 4 cpuid 0x19", "eax 7"), ("cpu 0 cpl 4 cpuid 0", "edx 0")]:
-        result = must(simulate(f"{head}{refused}\nexpect {expect}\n"), 1, refused)
+    for refused, expect in [("step empty", "zf 0"), ("read 0x992", "value 0"), ("cpl 4 cpuid 0x19", "eax 7"), ("cpl 4 cpuid 0", "edx 0")]:
+        result = must(simulate(f"{head}cpu 0 {refused}\nexpect {expect}\n"), 1, refused)
         need(f"expect {expect}: NOT MET, the last call was refused" in result.stdout, result.stdout)
 
 
