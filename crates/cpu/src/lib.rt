@@ -1,11 +1,12 @@
 // The CPU record: what stands in its 408 bytes, read and written in place. Whoever lends a record has seen to its length (refusal 4).
 ghost use mathlib.Core.Path.{_≡_};
 ghost use mathlib.Core.Bool.{cond};
-ghost use Prim.Native.Nat.{_+_, _≤_};
+ghost use Prim.Native.Nat.{_+_, _≤_, _<_};
 ghost use lib.ListN.{length};
 ghost use lib.Seq.{sets};
 ghost use Rattle.bits.specs.Words.{leBytes, leValue};
 ghost use Rattle.aes.specs.Meaning.{bytesOf};
+ghost use Rattle.model.specs.Numbers as numbers;
 ghost use Rattle.model.specs.Numbers.{clearBit, part};
 ghost use Rattle.model.specs.Cpu as cpuRecord;
 ghost use Rattle.model.specs.Forms.{registerOf};
@@ -28,6 +29,23 @@ const CPL: usize = RFLAGS + 8;
 const CONTROL: usize = CPL + 1;
 
 const ZEROS: usize = CONTROL + 1;
+
+// Control bits of the record.
+pub const CR4_KL: u8 = 0;
+
+pub const CR4_OSFXSR: u8 = 1;
+
+pub const CR0_EM: u8 = 2;
+
+pub const CR0_TS: u8 = 3;
+
+// A bit of a byte, by its number.
+pub fn bit(i: u8, x: u8) -> bool
+    requires { ⌜ i < 8 ⌝ }
+    ensures { λ r. ⌜ r ≡ numbers.bit i x ⌝ }
+{
+    (x >> i) % 2 == 1
+}
 
 // ---- numbers of eight bytes
 

@@ -1,4 +1,4 @@
-// The machine by value: power-on, register calls, settle, sleep and reset. A step is in `step`.
+// The machine by value: power-on, register calls, settle, sleep, reset, and CPUID. A step is in `step`.
 ghost use mathlib.Core.Path.{_≡_};
 ghost use Prim.Native.Nat.{_%_};
 ghost use lib.ListN.{getD, set, replicate};
@@ -6,7 +6,12 @@ ghost use Rattle.model.specs.Calls.{read, write, settle, sleep, reset};
 ghost use Rattle.model.specs.Execution as execution;
 ghost use Rattle.model.specs.Records.{processorLimit, zeroKey, zeroProcessor, noProcessor, withProcessors};
 ghost use Rattle.step.specs.declared.Answer.the-variants.{Done, Refused};
-ghost use Rattle.machine.specs.Meaning.{outcomeOf};
+ghost use Rattle.cpuid_model.specs.Leaves.{zeroLeaf};
+ghost use Rattle.cpuid_model.specs.Calls.{identify};
+ghost use Rattle.machine.specs.Meaning.{outcomeOf, identifiedOf};
+use cpu::control;
+use cpuid::registers;
+use cpuid_model::Leaf;
 use model::IwKey;
 use model::Machine;
 use model::Platform;
@@ -14,6 +19,7 @@ use model::Processor;
 use model::Slot;
 use platform::read_register;
 use platform::write_register;
+use refusals::cpuid_refusal;
 use refusals::read_refusal;
 use refusals::write_refusal;
 use step::Answer;
@@ -195,4 +201,42 @@ pub fn write(m: Machine, processor: u8, cpl: u8, address: u32, value: u64) -> Ou
     let mut k = with_processor(m, processor, e);
     k.platform = g;
     done(k)
+}
+
+// ---- CPUID
+
+// The answer, and the four registers.
+pub struct Identified {
+    pub answer: Answer,
+    pub registers: Leaf,
+}
+
+fn unidentified(n: u8) -> Identified
+    ensures { λ r. ⌜ r ≡ record { answer = Refused n; registers = zeroLeaf } ⌝ }
+{
+    Identified {
+        answer: Answer::Refused(n),
+        registers: Leaf {
+            eax: 0,
+            ebx: 0,
+            ecx: 0,
+            edx: 0,
+        },
+    }
+}
+
+pub fn cpuid(m: Machine, cpu: &[u8], leaf: u32, subleaf: u32) -> Identified
+    ensures { λ r. ⌜ r ≡ identifiedOf (identify m (record { cpu = now (cpu .entry); leaf = leaf; subleaf = subleaf })) ⌝ }
+{
+    if !valid(m) {
+        return unidentified(1);
+    }
+    let n = cpuid_refusal(cpu);
+    if n != 0 {
+        return unidentified(n);
+    }
+    Identified {
+        answer: Answer::Done,
+        registers: registers(m.features, control(cpu), leaf, subleaf),
+    }
 }

@@ -1,5 +1,18 @@
 // The emulated machine: its records. The definitions are in specs/, the laws in proofs/; the code is in `step` and `machine`.
 
+// Bits of the feature byte.
+pub const KEY_LOCKER: u8 = 0;
+
+pub const FIRMWARE_ENABLED: u8 = 1;
+
+pub const WIDE_FORMS: u8 = 2;
+
+pub const BACKUP_REGISTERS: u8 = 3;
+
+pub const NO_BACKUP: u8 = 4;
+
+pub const RANDOM_SOURCE: u8 = 5;
+
 // The scope, "Records". Flags are bytes, 0 or 1.
 pub struct IwKey {
     pub integrity: [u8; 16],

@@ -12,10 +12,10 @@ use Rattle.isa.specs.declared.Decoded.{Decoded}
 use Rattle.isa.specs.declared.Decoded.the-variants as decoded
 use Rattle.isa.specs.declared.Instruction.{Instruction}
 use Rattle.isa.specs.declared.Instruction.the-variants as instruction
-use Rattle.model.specs.Cpu.{cpuSize, cpl, control, zeroFieldSet}
+use Rattle.model.specs.Cpu.{cpuSize, control}
 use Rattle.model.specs.Calls.{ReadCall, WriteCall, read, write}
 use Rattle.model.specs.Refusals.{View, first, Asked, ofHandle, memoryLimit, randomLength, needsFirmware, needsWide, invalidOpcode, noMath, canonicalFault, instructionFault, outside, readFault, writeFault, tests, stepRefusal, refusal}
-use Rattle.refusals.specs.Parts.{within}
+use Rattle.refusals.specs.Parts.{within, badRecord}
 use Rattle.refusals.proofs.Parts.{operandTests, instructionTests, recordTests}
 use Rattle.refusals.proofs.Ways.{met, passed}
 
@@ -105,7 +105,7 @@ module _ (count features processor : ℕ) (cpu : List ℕ) (memory random : ℕ)
     step-chain : stepRefusal view (with d) ≡ cond (leb count processor) 3 afterProcessor
     unfolding tests
     step-chain =
-        let bad = ltb 3 (cpl cpu) || zeroFieldSet cpu in
+        let bad = badRecord cpu in
         let large = ltb memoryLimit memory in
         let odd = not (randomLength random) in
         ap (λ (r : ℕ). cond (leb count processor) 3 (cond (not (eqb (length cpu) cpuSize)) 4 r))

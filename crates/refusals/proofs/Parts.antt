@@ -1,6 +1,6 @@
 -- The model's list of tests in parts, each over what it depends on: what `between` leaves of it.
 -- Assumes nothing.
-use mathlib.Core.Bool.{Bool, true, false, not, _||_}
+use mathlib.Core.Bool.{Bool, true, false, not}
 use mathlib.Core.List.{List, [], _∷_}
 use Prim.Native.Nat.{ℕ}
 use lib.Dec.{ltb}
@@ -8,9 +8,10 @@ use Rattle.fips197.specs.declared.KeySize.{KeySize}
 use Rattle.isa.specs.declared.Address.{Address}
 use Rattle.isa.specs.declared.Instruction.{Instruction}
 use Rattle.isa.specs.declared.Instruction.the-variants as instruction
-use Rattle.model.specs.Cpu.{register, cpl, control, zeroFieldSet}
+use Rattle.model.specs.Cpu.{register, control}
 use Rattle.model.specs.Forms.{registerOf, handleAddress}
 use Rattle.model.specs.Refusals.{Test, test, memoryLimit, randomLength, needsFirmware, needsWide, invalidOpcode, noMath, canonicalFault, outside, loadFault, encodeFault}
+use Rattle.refusals.specs.Parts.{badRecord}
 
 -- 12 to 14 for a handle at an address
 abbrev pub handleTests : ℕ → Address → KeySize → List Test
@@ -34,4 +35,4 @@ instructionTests features cpu memory what lock bytes =
 -- 5 to 7, over the lengths of guest memory and random data
 abbrev pub recordTests : List ℕ → ℕ → ℕ → List Test
 recordTests cpu memory random =
-    test 5 (ltb 3 (cpl cpu) || zeroFieldSet cpu) ∷ test 6 (ltb memoryLimit memory) ∷ test 7 (not (randomLength random)) ∷ []
+    test 5 (badRecord cpu) ∷ test 6 (ltb memoryLimit memory) ∷ test 7 (not (randomLength random)) ∷ []

@@ -13,9 +13,9 @@ use Rattle.isa.specs.declared.Address.{Address}
 use Rattle.isa.specs.declared.Instruction.{Instruction}
 use Rattle.isa.specs.declared.Segment.{Segment}
 use Rattle.isa.specs.declared.Segment.the-variants.{Data, Stack}
-use Rattle.model.specs.Cpu.{cpl, control, zeroFieldSet}
+use Rattle.model.specs.Cpu.{control}
 use Rattle.model.specs.Refusals.{first, memoryLimit, randomLength, needsFirmware, needsWide, invalidOpcode, noMath, inSegment}
-use Rattle.refusals.specs.Parts.{tested}
+use Rattle.refusals.specs.Parts.{badRecord, tested}
 use Rattle.refusals.proofs.Parts.{handleTests, operandTests, instructionTests, recordTests}
 
 -- a test that holds, and one that does not
@@ -90,13 +90,6 @@ module _ (features : ℕ) (cpu : List ℕ) (memory : ℕ) (what : Instruction) (
   instruction-rest r e f p = passed test10 10 (cond test11 11 after11) r e (passed test11 11 after11 r f p)
 
 -- ---- 5 to 7
-
-abbrev badRecord : List ℕ → Bool
-badRecord cpu = ltb 3 (cpl cpu) || zeroFieldSet cpu
-
--- test 5, from what its parts gave
-pub told-record : (cpu : List ℕ) (z b : Bool) (k : ℕ) → k ≡ cpl cpu → z ≡ zeroFieldSet cpu → (ltb 3 k || z) ≡ b → badRecord cpu ≡ b
-told-record cpu z b k p q g = sym (ap₂ (λ (x : ℕ) (y : Bool). ltb 3 x || y) p q) ∙ g
 
 module _ (cpu : List ℕ) (memory random : ℕ) where
   abbrev after6 : ℕ

@@ -1,20 +1,24 @@
 // The scope, "Turned back": the tests 3 to 14, in its order. Each function gives the number of the first of its tests that holds, or 0.
 ghost use mathlib.Core.Path.{_≡_};
-ghost use mathlib.Core.Bool.{Bool, true, false, cond};
-ghost use Prim.Native.Nat.{ℕ, _<_};
-ghost use lib.Dec.{leb, ltb};
+ghost use mathlib.Core.Bool.{Bool, true, false, cond, not};
+ghost use Prim.Native.Nat.{ℕ};
+ghost use lib.Dec.{eqb, leb, ltb};
 ghost use lib.ListN.{length};
 ghost use Rattle.isa.specs.declared.Decoded as decoded;
 ghost use Rattle.isa.specs.declared.Decoded.the-variants.{Found};
-ghost use Rattle.model.specs.Numbers as numbers;
 ghost use Rattle.model.specs.Cpu.{cpuSize};
 ghost use Rattle.model.specs.Forms.{handleAddress, formOf};
 ghost use Rattle.model.specs.Calls.{read, write};
 ghost use Rattle.model.specs.Refusals.{View, stepRefusal, refusal, needsFirmware, needsWide, invalidOpcode, noMath, loadFault, encodeFault, inSegment, canonicalFault, outside, noRegisters};
-ghost use Rattle.refusals.specs.Parts.{within, tested, loadedFrom, handleLinear};
+ghost use Rattle.refusals.specs.Parts.{within, badRecord, tested, loadedFrom, handleLinear};
 use address::effective_address;
 use address::some_not_canonical;
 use address::some_outside;
+use cpu::CR0_EM;
+use cpu::CR0_TS;
+use cpu::CR4_KL;
+use cpu::CR4_OSFXSR;
+use cpu::bit;
 use cpu::control;
 use cpu::cpl;
 use cpu::register;
@@ -26,28 +30,12 @@ use isa::Decoded;
 use isa::Instruction;
 use isa::Operand;
 use isa::Segment;
-
-// Bits of the feature byte.
-const KEY_LOCKER: u8 = 0;
-
-const FIRMWARE_ENABLED: u8 = 1;
-
-const WIDE_FORMS: u8 = 2;
-
-const BACKUP_REGISTERS: u8 = 3;
-
-const NO_BACKUP: u8 = 4;
-
-const RANDOM_SOURCE: u8 = 5;
-
-// Control bits of the CPU record.
-const CR4_KL: u8 = 0;
-
-const CR4_OSFXSR: u8 = 1;
-
-const CR0_EM: u8 = 2;
-
-const CR0_TS: u8 = 3;
+use model::BACKUP_REGISTERS;
+use model::FIRMWARE_ENABLED;
+use model::KEY_LOCKER;
+use model::NO_BACKUP;
+use model::RANDOM_SOURCE;
+use model::WIDE_FORMS;
 
 const CPU_SIZE: usize = 408;
 
@@ -59,13 +47,6 @@ const RANDOM_SIZE: usize = 48;
 pub struct Tested {
     pub number: u8,
     pub linear: u64,
-}
-
-fn bit(i: u8, x: u8) -> bool
-    requires { ⌜ i < 8 ⌝ }
-    ensures { λ r. ⌜ r ≡ numbers.bit i x ⌝ }
-{
-    (x >> i) % 2 == 1
 }
 
 // ---- 10 and 11
@@ -238,6 +219,29 @@ fn instruction_refusal(
     operand_refusal(features, cpu, memory, what, bytes)
 }
 
+// ---- a CPU record
+
+// 5, for a record of the right length.
+fn record_fault(cpu: &[u8]) -> bool
+    requires { ⌜ length (now cpu) ≡ cpuSize ⌝ }
+    ensures { λ r. ⌜ r ≡ badRecord (now (cpu .entry)) ⌝ }
+{
+    (3 < cpl(cpu)) | zero_field_set(cpu)
+}
+
+// 4 and 5: all that CPUID asks of its CPU record.
+pub fn cpuid_refusal(cpu: &[u8]) -> u8
+    ensures { λ r. ⌜ r ≡ cond (not (eqb (length (now (cpu .entry))) cpuSize)) 4 (cond (badRecord (now (cpu .entry))) 5 0) ⌝ }
+{
+    if cpu.len() != CPU_SIZE {
+        return 4;
+    }
+    if record_fault(cpu) {
+        return 5;
+    }
+    0
+}
+
 // ---- a step
 
 // 5 to 7: CPU record, guest memory and random data.
@@ -245,7 +249,7 @@ fn record_refusal(cpu: &[u8], memory: usize, random: usize) -> u8
     requires { ⌜ length (now cpu) ≡ cpuSize ⌝ }
     ensures { λ r. ⌜ ((v : View) (processor : ℕ) (d : decoded.Decoded) → r ≡ within 5 7 v (record { processor = processor; cpu = now (cpu .entry); memory = memory; random = random; decoded = d })) ⌝ }
 {
-    if (3 < cpl(cpu)) | zero_field_set(cpu) {
+    if record_fault(cpu) {
         return 5;
     }
     if MEMORY_LIMIT < memory {
