@@ -1,19 +1,20 @@
 -- The ways that the call goes: refused, or answered.
 -- Assumes nothing.
-use mathlib.Core.Path.{_≡_, _∙_, refl, ap}
+use mathlib.Core.Path.{_≡_, _∙_, refl, sym, ap}
 use mathlib.Core.Bool.{Bool, true, false, cond, not, _||_}
 use mathlib.Core.List.{List}
 use Prim.Native.Nat.{ℕ}
 use native.Mathlib.Nat.{suc-ne-zero}
 use lib.Dec.{eqb, ltb}
 use lib.ListN.{length}
-use borrow.Author.Tests.{ne-eqb, eqb-true}
+use borrow.Author.Tests.{eq-eqb, ne-eqb, eqb-true}
 use Rattle.bits.proofs.Choice.{cond-on, cond-off}
 use Rattle.model.specs.Cpu.{cpuSize, cpl, control, zeroFieldSet}
 use Rattle.model.specs.Validity.{valid}
+use Rattle.model.specs.Layout.{machineSize, machineAt}
 use Rattle.model.specs.declared.Machine.{Machine}
 use Rattle.cpuid_model.specs.Leaves.{zeroLeaf, cpuid}
-use Rattle.cpuid_model.specs.Calls.{CpuidCall, refusal, Identified, identify}
+use Rattle.cpuid_model.specs.Calls.{CpuidCall, refusal, Identified, identify, identifyLent}
 use Rattle.cpuid_model.specs.declared.Leaf.{Leaf}
 
 abbrev identified : ℕ → Leaf → Identified
@@ -48,3 +49,18 @@ module _ (m : Machine) (c : CpuidCall) where
   unfolding identify
   identify-done e =
       ap (λ (r : ℕ). identified r (cond (eqb r 0) (cpuid (m .features) (control (c .cpu)) (c .leaf) (c .subleaf)) zeroLeaf)) e
+
+-- ---- on a lent block
+
+module _ (block : List ℕ) (c : CpuidCall) (lent : Leaf) where
+  -- what is by value goes to the lent registers, unless it was refused
+  abbrev pub into : Identified → Identified
+  into i = identified (i .number) (cond (eqb (i .number) 0) (i .registers) lent)
+
+  pub lent-short : (length block ≡ machineSize → ⊥) → identified 1 lent ≡ identifyLent block c lent
+  unfolding identifyLent
+  lent-short h = sym (ap into (cond-off (ne-eqb (length block) machineSize h) (identify (machineAt block) c) (identified 1 zeroLeaf)))
+
+  pub lent-block : length block ≡ machineSize → into (identify (machineAt block) c) ≡ identifyLent block c lent
+  unfolding identifyLent
+  lent-block h = sym (ap into (cond-on (eq-eqb (length block) machineSize h) (identify (machineAt block) c) (identified 1 zeroLeaf)))

@@ -22,12 +22,17 @@ use Rattle.model.proofs.Bytes.{bytes-at, machine-shaped}
 use Rattle.model.proofs.Frames.{by-number, read-kept}
 use Rattle.model.proofs.InPlace.{processor-few, step-entry}
 use Rattle.model.specs.Records.{noProcessor, processorAt, withProcessor}
+use Rattle.cpuid_model.specs.Calls as cpuid
+use Rattle.cpuid_model.specs.Calls.{CpuidCall, identify, identifyLent}
+use Rattle.cpuid_model.specs.declared.Leaf.{Leaf}
+use Rattle.cpuid_model.proofs.Calls.{lent-block}
 use Rattle.step.specs.Meaning.{numberOf as numberIn, answerOf, Left, left, leftOf}
-use Rattle.machine.specs.Meaning.{outcomeOf}
+use Rattle.machine.specs.Meaning.{outcomeOf, identifiedOf}
 use Rattle.step.specs.declared.Answer.{Answer}
 use Rattle.step.specs.declared.Answer.the-variants.{Done, Refused}
 use Rattle.machine.specs.declared.Outcome.{Outcome}
-use Rattle.keylocker.specs.Meaning.{called, calledOf, answered, finished, readAnswered}
+use Rattle.machine.specs.declared.Identified as machineCall
+use Rattle.keylocker.specs.Meaning.{called, calledOf, answered, finished, valueLeft, readAnswered, identified}
 use Rattle.keylocker.specs.Promises.{answer, gave, PowerOnPromise, StepPromise, ReadPromise}
 
 -- ---- what an answer can hold: a CPU record if the call is a step, a value if it is a read
@@ -251,3 +256,20 @@ module _ (block : List ℕ) (s : StepCall) where
       let written : Processor → ℕ → List ℕ = λ x k. sets block (2 + k * entrySize) (entryBytes x) in
       (λ j. called 0 ((q ∙ ap₂ written (entry ∙ ap (processorAt (o .machine)) p) p ∙ step-entry block h s accepted ∙ ap machineBytes (sym same)) j))
       ∙ ap (answered block (withProcessor i e m)) (sym f)
+
+-- ---- CPUID
+
+module _ (block : List ℕ) (c : CpuidCall) (old : Leaf) where
+  pub cpuid-called : (m : Machine) (x : machineCall.Identified) → length block ≡ machineSize → m ≡ machineAt block → x ≡ identifiedOf (identify m c)
+      → identified old (x .registers) (x .answer) ≡ identifyLent block c old
+  cpuid-called m x h w e =
+      ap (λ (y : machineCall.Identified). identified old (y .registers) (y .answer)) (e ∙ ap (λ (y : Machine). identifiedOf (identify y c)) w)
+      ∙ (λ j. record { number = number-in (i .number) j; registers = go (eqb (i .number) 0) j })
+      ∙ lent-block block c old h
+    where
+      i : cpuid.Identified
+      i = identify (machineAt block) c
+
+      go : (t : Bool) → valueLeft old (i .registers) (cond t Done (Refused (i .number))) ≡ cond t (i .registers) old
+      go true = refl
+      go false = refl

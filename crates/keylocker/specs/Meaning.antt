@@ -5,6 +5,8 @@ use Prim.Native.Nat.{ℕ}
 use Rattle.model.specs.Lent.{Lent}
 use Rattle.model.specs.Layout.{machineBytes}
 use Rattle.model.specs.declared.Machine.{Machine}
+use Rattle.cpuid_model.specs.Calls as cpuid
+use Rattle.cpuid_model.specs.declared.Leaf.{Leaf}
 use Rattle.step.specs.Meaning.{numberOf}
 use Rattle.step.specs.declared.Answer.{Answer}
 use Rattle.step.specs.declared.Answer.the-variants.{Done, Refused}
@@ -33,15 +35,18 @@ answered block m a = called (numberOf a) (blockLeft block m a)
 abbrev pub finished : List ℕ → Outcome → Called
 finished block o = answered block (o .machine) (o .answer)
 
--- ---- a read: the value is written where the call is not refused
+-- ---- a read, and CPUID: what is lent for their answer is written where the call is not refused
+
+abbrev pub valueLeft : {A : Type 0} → A → A → Answer → A
+valueLeft old v Done = v
+valueLeft old v (Refused n) = old
 
 pub record ReadCalled : Type 0 where
   pub number : ℕ
   pub value : ℕ
 
-abbrev pub valueLeft : ℕ → ℕ → Answer → ℕ
-valueLeft old v Done = v
-valueLeft old v (Refused n) = old
-
 abbrev pub readAnswered : ℕ → ℕ → Answer → ReadCalled
 readAnswered old v a = record { number = numberOf a; value = valueLeft old v a }
+
+abbrev pub identified : Leaf → Leaf → Answer → cpuid.Identified
+identified old l a = record { number = numberOf a; registers = valueLeft old l a }

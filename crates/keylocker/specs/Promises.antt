@@ -8,6 +8,8 @@ use Prim.Native.Nat.{ℕ}
 use lib.Dec.{eqb}
 use Rattle.model.specs.Calls.{PowerOn, StepCall, ReadCall, WriteCall, SettleCall, SleepCall, step, read, write, settle, sleep, reset, Answer}
 use Rattle.model.specs.Lent.{Lent, powerOnLent, callLent}
+use Rattle.cpuid_model.specs.Calls.{CpuidCall, identifyLent}
+use Rattle.cpuid_model.specs.declared.Leaf.{Leaf}
 
 -- what a caller sees of an answer: the number returned, the CPU record at exit, the value read. No call is lent a buffer.
 abbrev pub answer : ℕ → List ℕ → ℕ → Answer
@@ -46,3 +48,7 @@ SleepPromise before s after number = gave after number [] 0 ≡ callLent before 
 -- keylocker_reset
 abbrev pub ResetPromise : List ℕ → List ℕ → ℕ → Type 0
 ResetPromise before after number = gave after number [] 0 ≡ callLent before reset
+
+-- keylocker_cpuid: block and CPU record are lent shared, so they are the same at exit; the four registers, at entry and at exit
+abbrev pub CpuidPromise : List ℕ → CpuidCall → Leaf → Leaf → ℕ → Type 0
+CpuidPromise block c before after number = record { number = number; registers = after } ≡ identifyLent block c before

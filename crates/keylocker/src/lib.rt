@@ -3,7 +3,7 @@ ghost use mathlib.Core.Path.{_≡_};
 ghost use lib.ListN.{length};
 ghost use Rattle.model.specs.Layout.{machineSize};
 ghost use Rattle.keylocker.specs.Meaning.{called, finished};
-ghost use Rattle.keylocker.specs.Promises.{PowerOnPromise, StepPromise, ReadPromise, WritePromise, SettlePromise, SleepPromise, ResetPromise};
+ghost use Rattle.keylocker.specs.Promises.{PowerOnPromise, StepPromise, ReadPromise, WritePromise, SettlePromise, SleepPromise, ResetPromise, CpuidPromise};
 use layout::read_machine;
 use layout::write_entry;
 use layout::write_machine;
@@ -139,6 +139,41 @@ pub extern "C" fn keylocker_step(
         Answer::Refused(refusal) => refusal as u32,
         Answer::Done => {
             write_entry(machine, processor, e);
+            0
+        }
+    }
+}
+
+// ---- CPUID
+
+// Machine and CPU record are not written, and the four registers only where the answer is 0.
+#[no_mangle]
+pub extern "C" fn keylocker_cpuid(
+    machine: &[u8],
+    cpu: &[u8],
+    leaf: u32,
+    subleaf: u32,
+    eax: &mut u32,
+    ebx: &mut u32,
+    ecx: &mut u32,
+    edx: &mut u32,
+) -> u32
+    ensures { λ r. ⌜ CpuidPromise (now (machine .entry)) (record { cpu = now (cpu .entry); leaf = leaf; subleaf = subleaf }) (record { eax = now (eax .entry); ebx = now (ebx .entry); ecx = now (ecx .entry); edx = now (edx .entry) }) (record { eax = now (eax .exit); ebx = now (ebx .exit); ecx = now (ecx .exit); edx = now (edx .exit) }) r ⌝ }
+{
+    if machine.len() != MACHINE_SIZE {
+        return 1;
+    }
+    let m = read_machine(machine);
+    let x = machine::cpuid(m, cpu, leaf, subleaf);
+    let registers = x.registers;
+    let answer = x.answer;
+    match answer {
+        Answer::Refused(n) => n as u32,
+        Answer::Done => {
+            *eax = registers.eax;
+            *ebx = registers.ebx;
+            *ecx = registers.ecx;
+            *edx = registers.edx;
             0
         }
     }
