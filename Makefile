@@ -7,7 +7,7 @@
 # make test-decoder  compare the proved decoder with GNU objdump, on about a million strings
 # make test-machine  compare the proved machine with the model in Python, on 20,000 random calls
 # make test-host, test-valgrind, test-faults, test-stack  compare the C library with a model in C, and run it on a small stack; tests/host/rules.mk says how
-# make test-simulator  the simulator on traces that the model in Python checks, the installed files, and the example for C
+# make test-simulator  the simulator on traces that the model in Python checks, the installed files, and the examples for C
 # make clean     remove build/; what rt made is in target/
 
 CC = gcc

@@ -4,6 +4,7 @@
 #include <stdio.h>
 #include <string.h>
 
+#include "cpuid.h"
 #include "print.h"
 #include "record.h"
 #include "value.h"
@@ -75,6 +76,21 @@ static void expect_value(struct simulator *s)
         say_answer(s);
 }
 
+static void expect_cpuid(struct simulator *s, int place)
+{
+    uint64_t value = take_number(&s->line, "what CPUID answers", UINT32_MAX);
+    take_end(&s->line);
+    if (s->last.call != CALL_CPUID)
+        bad_line(&s->line, "expected a cpuid as the last call before 'expect %s'", cpuid_names[place]);
+    bool done = s->last.answer == KEYLOCKER_DONE;
+    if (!unmet(s, done && s->last.cpuid[place] == value))
+        return;
+    if (done)
+        printf("%s is 0x%" PRIx32 "\n", cpuid_names[place], s->last.cpuid[place]);
+    else
+        say_answer(s);
+}
+
 static void expect_register(struct simulator *s, const struct field *field)
 {
     take_keyword(&s->line, "=");
@@ -87,7 +103,7 @@ static void expect_register(struct simulator *s, const struct field *field)
 
 static void expect_bytes(struct simulator *s)
 {
-    take_bytes(s, "done, refused, zf, value or bytes", &s->left);
+    take_bytes(s, "done, refused, zf, value, eax, ebx, ecx, edx or bytes", &s->left);
     take_keyword(&s->line, "=");
     take_bytes(s, "bytes", &s->right);
     take_end(&s->line);
@@ -99,9 +115,21 @@ static void expect_bytes(struct simulator *s)
     putchar('\n');
 }
 
+/* The register of CPUID that the next word names, or -1. */
+static int accept_cpuid(struct simulator *s)
+{
+    for (int place = 0; place < CPUID_REGISTERS; place++)
+        if (accept(&s->line, cpuid_names[place]))
+            return place;
+    return -1;
+}
+
 void run_expect(struct simulator *s)
 {
-    if (accept(&s->line, "done")) {
+    int place = accept_cpuid(s);
+    if (place >= 0) {
+        expect_cpuid(s, place);
+    } else if (accept(&s->line, "done")) {
         expect_answer(s, KEYLOCKER_DONE);
     } else if (accept(&s->line, "refused")) {
         uint64_t number = take_number(&s->line, "a refusal", KEYLOCKER_PF);

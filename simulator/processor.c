@@ -4,6 +4,7 @@
 #include <stdio.h>
 #include <string.h>
 
+#include "cpuid.h"
 #include "define.h"
 #include "expect.h"
 #include "instructions.h"
@@ -18,14 +19,18 @@ static struct cpu *this_cpu(struct simulator *s)
     return &s->cpus[s->processor];
 }
 
+static uint8_t cpl_of(struct simulator *s)
+{
+    return s->cpl >= 0 ? (uint8_t)s->cpl : this_cpu(s)->record[KEYLOCKER_CPU_CPL];
+}
+
 /* ---- steps */
 
 bool execute(struct simulator *s, enum call call, const uint8_t *string, size_t len, const struct bytes *random)
 {
     struct cpu *cpu = this_cpu(s);
     uint8_t own_cpl = cpu->record[KEYLOCKER_CPU_CPL];
-    if (s->cpl >= 0)
-        cpu->record[KEYLOCKER_CPU_CPL] = (uint8_t)s->cpl;
+    cpu->record[KEYLOCKER_CPU_CPL] = cpl_of(s);
     uint32_t answer = keylocker_step(s->machine.data, s->machine.len, (uint8_t)s->processor, cpu->record, cpu->len, s->memory, s->memory_len,
                                      random == NULL ? NULL : random->data, random == NULL ? 0 : random->len, string, len);
     cpu->record[KEYLOCKER_CPU_CPL] = own_cpl;
@@ -47,6 +52,24 @@ static void run_step(struct simulator *s)
     uint64_t before = get_field(this_cpu(s), rip);
     if (execute(s, call_of(s->left.data, s->left.len), s->left.data, s->left.len, &s->right))
         print_answer(s, "0 done, ZF %u: RIP is %" PRIu64 " bytes on", s->last.zf, get_field(this_cpu(s), rip) - before);
+}
+
+/* ---- CPUID */
+
+static void run_cpuid(struct simulator *s)
+{
+    uint32_t leaf = (uint32_t)take_number(&s->line, "a leaf", UINT32_MAX);
+    uint32_t subleaf = at_end(&s->line) ? 0 : (uint32_t)take_number(&s->line, "a subleaf", UINT32_MAX);
+    take_end(&s->line);
+    print_statement(s);
+    struct cpu cpu = *this_cpu(s);
+    cpu.record[KEYLOCKER_CPU_CPL] = cpl_of(s);
+    uint32_t r[CPUID_REGISTERS] = {0};
+    if (!answered(s, CALL_CPUID,
+                  keylocker_cpuid(s->machine.data, s->machine.len, cpu.record, cpu.len, leaf, subleaf, &r[EAX], &r[EBX], &r[ECX], &r[EDX])))
+        return;
+    memcpy(s->last.cpuid, r, sizeof r);
+    print_cpuid(s, leaf);
 }
 
 /* ---- backup registers */
@@ -73,11 +96,6 @@ static uint32_t take_register(struct simulator *s)
     if (!number_in(word.text, word.len, &address) || address > UINT32_MAX)
         bad_line(&s->line, "expected %s, not '%.*s'", expected, shown(word.len), word.text);
     return (uint32_t)address;
-}
-
-static uint8_t cpl_of(struct simulator *s)
-{
-    return s->cpl >= 0 ? (uint8_t)s->cpl : this_cpu(s)->record[KEYLOCKER_CPU_CPL];
 }
 
 static void run_read(struct simulator *s)
@@ -168,6 +186,7 @@ static const struct {
     bool has_cpl;
 } verbs[] = {
     {"step", run_step, true},
+    {"cpuid", run_cpuid, true},
     {"read", run_read, true},
     {"write", run_write, true},
     {"set", run_set, false},
@@ -178,8 +197,8 @@ static const struct {
 
 static void run_verb(struct simulator *s)
 {
-    static const char expected[] = "an instruction (loadiwkey, encodekey128, encodekey256, aesenc128kl and so on), step, read, write, set, bytes, show "
-                                   "or expect";
+    static const char expected[] = "an instruction (loadiwkey, encodekey128, encodekey256, aesenc128kl and so on), step, cpuid, read, write, set, bytes, "
+                                   "show or expect";
     struct word word = take_word(&s->line, expected);
     const struct mnemonic *mnemonic = mnemonic_named(word);
     if (mnemonic != NULL) {
@@ -190,7 +209,7 @@ static void run_verb(struct simulator *s)
         if (!word_is(word, verbs[i].name))
             continue;
         if (s->cpl >= 0 && !verbs[i].has_cpl)
-            bad_line(&s->line, "expected an instruction, step, read or write behind cpl, not '%s'", verbs[i].name);
+            bad_line(&s->line, "expected an instruction, step, cpuid, read or write behind cpl, not '%s'", verbs[i].name);
         verbs[i].run(s);
         return;
     }

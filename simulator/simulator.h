@@ -31,7 +31,11 @@ struct cpu {
     size_t len; /* of the record that is lent */
 };
 
-enum call { CALL_NONE, CALL_POWER_ON, CALL_LOAD, CALL_ENCODE, CALL_USE, CALL_UNKNOWN_STEP, CALL_READ, CALL_WRITE, CALL_SETTLE, CALL_SLEEP, CALL_RESET };
+enum call { CALL_NONE, CALL_POWER_ON, CALL_LOAD, CALL_ENCODE, CALL_USE, CALL_UNKNOWN_STEP, CALL_CPUID, CALL_READ, CALL_WRITE, CALL_SETTLE, CALL_SLEEP,
+            CALL_RESET };
+
+/* The registers that CPUID writes, in their order there. */
+enum { EAX, EBX, ECX, EDX, CPUID_REGISTERS };
 
 /* What the last call of the library answered, for expect. */
 struct last {
@@ -39,6 +43,7 @@ struct last {
     uint32_t answer;
     unsigned zf;
     uint64_t value;
+    uint32_t cpuid[CPUID_REGISTERS];
 };
 
 struct counts {

@@ -10,7 +10,8 @@
 static const char *const stops[] = {"->", "=", "random", "encryption", "no-backup", "cpl0-only", "no-encrypt", "no-decrypt", "restrict"};
 
 /* Other words that cannot be names, because they have a meaning where names stand. */
-static const char *const reserved[] = {"machine", "memory", "record", "at", "empty", "integrity", "not-ready", "done", "refused", "zf", "value"};
+static const char *const reserved[] = {"machine", "memory", "record", "at", "empty", "integrity", "not-ready",
+                                       "done", "refused", "zf", "value", "eax", "ebx", "ecx", "edx"};
 
 static bool one_of(struct word word, const char *const *keywords, size_t count)
 {

@@ -155,6 +155,14 @@ class Cpu:
         self.rflags = self.rflags & ~SIX_FLAGS | on
 
 
+def cpu_from(record):
+    """The lent record, with refusals 4 and 5."""
+    refuse_if(len(record) != CPU_SIZE, 4)
+    cpu = Cpu(record)
+    refuse_if(cpu.cpl > 3 or cpu.control > 15 or any(cpu.bytes[402:]), 5)
+    return cpu
+
+
 # ---- strings: the text that tests/decoder.py makes of them, taken apart
 
 
@@ -304,9 +312,7 @@ def step(machine, processor, cpu, memory, random, string):
     """The machine record and the CPU record after it."""
     m = machine_from(machine)
     refuse_if(processor >= m.count, 3)
-    refuse_if(len(cpu) != CPU_SIZE, 4)
-    cpu = Cpu(cpu)
-    refuse_if(cpu.cpl > 3 or cpu.control > 15 or any(cpu.bytes[402:]), 5)
+    cpu = cpu_from(cpu)
     refuse_if(len(memory) > MEMORY_LIMIT, 6)
     refuse_if(len(random) not in [0, RANDOM_SIZE], 7)
     i = decode(string)
@@ -322,6 +328,25 @@ def step(machine, processor, cpu, memory, random, string):
         use(m, processor, cpu, i, handle_in(memory, cpu, i))
     cpu.rip += i.length
     return m.to_bytes(), bytes(cpu.bytes)
+
+
+# ---- CPUID, by 343965-001US, chapter 2
+
+
+def cpuid(machine, cpu, leaf, subleaf):
+    """EAX, EBX, ECX and EDX."""
+    m = machine_from(machine)
+    control = cpu_from(cpu).control
+
+    def has(feature):
+        return int(m.features & feature != 0)
+
+    if leaf == 7 and subleaf == 0:
+        return 0, 0, has(KL) << 23, 0
+    if leaf == 0x19 and has(KL):
+        aeskle = int(has(FIRMWARE) and control & CR4_KL != 0)
+        return 0b111, aeskle | has(WIDE) << 2 | has(BACKUP) << 4, has(NO_BACKUP) | has(RANDOM_SOURCE) << 1, 0
+    return 0, 0, 0, 0
 
 
 # ---- the other calls

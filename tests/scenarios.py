@@ -30,7 +30,7 @@ STDIN_LIMIT = 131_072
 
 # ---- the calls as lines, as crates/scenarios/src/call.rt has them
 
-KINDS = ["power-on", "read", "write", "settle", "sleep", "reset", "step", "lend"]
+KINDS = ["power-on", "read", "write", "settle", "sleep", "reset", "step", "lend", "cpuid"]
 
 
 def with_zeros_short(block):
@@ -48,7 +48,7 @@ def with_zeros_short(block):
 
 def stdin_line(name, kind, x=0, y=0, address=0, value=0, parts=()):
     """Each of parts goes into a place of its own; their lengths stand before them."""
-    lengths = [len(part) for part, room in parts] if kind == "step" else []
+    lengths = [len(part) for part, room in parts] if kind in ["step", "cpuid"] else []
     lengths = "".join(f"{length:04x}" for length in lengths).ljust(16, "0")
     head = f"{KINDS.index(kind):02x}{x:02x}{y:02x}00 {address:08x} {value:016x} {lengths}"
     for part, room in parts:
@@ -74,6 +74,7 @@ class Script:
         self.machine = bytes(model.MACHINE_SIZE)
         self.cpu = None
         self.value = None
+        self.registers = None
         self.stdin = []
         self.stdout = []
 
@@ -133,6 +134,15 @@ class Script:
             self.cpu = None
         parts = [(before, 416), (memory, 256), (random, 64), (string, 64)]
         return self.line(name, "step", number, said, machine, x=processor, parts=parts)
+
+    def cpuid(self, name, leaf, subleaf=0, cpu=None):
+        before = record() if cpu is None else cpu
+        try:
+            number, self.registers = 0, model.cpuid(self.machine, before, leaf, subleaf)
+            said = "".join(f" {register} {value:08x}" for register, value in zip(["eax", "ebx", "ecx", "edx"], self.registers))
+        except Refused as refused:
+            number, self.registers, said = refused.number, None, ""
+        return self.line(name, "cpuid", number, said, self.machine, address=leaf, value=subleaf, parts=[(before, 416)])
 
 
 # ---- pieces of scenarios
@@ -649,6 +659,70 @@ def whole_record(s):
         expect(f"record-{name}", list(s.machine[920:]), bits)
 
 
+def cpuid_features(s):
+    """Leaves 7 and 0x19: all features, and fewer, with CR4.KL on and off."""
+    kl, zero = (0, 0, 1 << 23, 0), (0, 0, 0, 0)
+    no_cr4_kl = CONTROL & ~model.CR4_KL
+    for name, features, control, leaf_7, leaf_19 in [
+        ("all", 0b111111, CONTROL, kl, (7, 0b10101, 3, 0)),
+        ("cr4-kl-off", 0b111111, no_cr4_kl, kl, (7, 0b10100, 3, 0)),
+        ("cr4-kl-alone", 0b111111, model.CR4_KL, kl, (7, 0b10101, 3, 0)),
+        ("all-but-cr4-kl", 0b111111, 14, kl, (7, 0b10100, 3, 0)),
+        ("firmware-off", 0b111101, CONTROL, kl, (7, 0b10100, 3, 0)),
+        ("kl-off", 0b111110, CONTROL, zero, zero),
+        ("none", 0, CONTROL, zero, zero),
+        ("kl", 0b000001, CONTROL, kl, (7, 0, 0, 0)),
+        ("firmware", 0b000011, CONTROL, kl, (7, 1, 0, 0)),
+        ("firmware-cr4-kl-off", 0b000011, no_cr4_kl, kl, (7, 0, 0, 0)),
+        ("wide", 0b000101, CONTROL, kl, (7, 0b100, 0, 0)),
+        ("backup", 0b001001, CONTROL, kl, (7, 0b10000, 0, 0)),
+        ("no-backup", 0b010001, CONTROL, kl, (7, 0, 0b01, 0)),
+        ("random", 0b100001, CONTROL, kl, (7, 0, 0b10, 0)),
+    ]:
+        s.power_on(f"cpuid-{name}-power-on", count=1, features=features)
+        for leaf, wanted in [(7, leaf_7), (0x19, leaf_19)]:
+            expect(f"cpuid-{name}", s.cpuid(f"cpuid-{name}-{leaf:x}", leaf, cpu=record(control=control)), 0)
+            expect(f"cpuid-{name}", s.registers, wanted)
+
+
+def cpuid_leaves(s):
+    """The subleaf counts for leaf 7 only, and the CPL not at all; other leaves are zero."""
+    s.power_on("cpuid-leaves-power-on", count=1)
+    leaf_19, zero = (7, 0b10101, 3, 0), (0, 0, 0, 0)
+    for leaf, subleaf, cpl, wanted in [
+        (7, 0, 3, (0, 0, 1 << 23, 0)),
+        (7, 1, 0, zero),
+        (7, 2**31, 0, zero),
+        (7, 2**32 - 1, 0, zero),
+        (0x19, 0, 1, leaf_19),
+        (0x19, 1, 2, leaf_19),
+        (0x19, 2**32 - 1, 3, leaf_19),
+        (0, 0, 0, zero),
+        (6, 0, 0, zero),
+        (8, 0, 0, zero),
+        (0x18, 0, 0, zero),
+        (0x1A, 0, 0, zero),
+        (0x107, 0, 0, zero),
+        (0x119, 0, 0, zero),
+        (0x80000007, 0, 0, zero),
+        (0x40000019, 0, 0, zero),
+        (2**32 - 1, 2**32 - 1, 0, zero),
+    ]:
+        name = f"cpuid-{leaf:x}-{subleaf:x}-cpl-{cpl}"
+        expect(name, s.cpuid(name, leaf, subleaf, record(cpl=cpl)), 0)
+        expect(name, s.registers, wanted)
+
+
+def aeskle(s):
+    """An encode gives #UD exactly where AESKLE is 0."""
+    for features in range(4):
+        s.power_on(f"aeskle-{features}-power-on", count=1, features=features)
+        for control in [CONTROL, CONTROL & ~model.CR4_KL]:
+            name = f"aeskle-{features}-control-{control}"
+            s.cpuid(name, 0x19, cpu=record(control=control))
+            expect(name, s.step(f"{name}-encode", ENCODE_128, cpu=record(control=control)), 0 if s.registers[1] & 1 else 10)
+
+
 def values(s):
     backup_statuses(s)
     copy_statuses(s)
@@ -656,6 +730,9 @@ def values(s):
     rip(s)
     encode_registers(s)
     whole_record(s)
+    cpuid_features(s)
+    cpuid_leaves(s)
+    aeskle(s)
 
 
 # ---- refusals: each meets its own number and later ones, so that the order shows
@@ -770,6 +847,29 @@ def register_refusals(s):
         expect(name, call(f"refusal-{name}", **arguments), number)
 
 
+def cpuid_refusals(s):
+    """1, 4 and 5, in this order, and nothing else: not CR0.EM, CR0.TS or a CPL up to 3."""
+    no_machine, machine = bytes(model.MACHINE_SIZE), Machine(count=1, features=model.ALL_FEATURES).to_bytes()
+    for number, name, lent, cpu in [
+        (1, "count-0", no_machine, bytes(407)),
+        (1, "count-0-cpl-4", no_machine, record(cpl=4)),
+        (1, "features-64", machine[:1] + bytes([64]) + machine[2:], record()),
+        (4, "cpu-0", machine, b""),
+        (4, "cpu-407", machine, record()[:407]),
+        (4, "cpu-409-cpl-4", machine, record(cpl=4) + bytes(1)),
+        (5, "cpl-4", machine, record(cpl=4)),
+        (5, "cpl-255", machine, record(cpl=255)),
+        (5, "control-bit-4", machine, record(control=CONTROL | 16)),
+        (5, "control-bit-7", machine, record(control=CONTROL | 128)),
+        (5, "byte-402", machine, record()[:402] + bytes([1]) + bytes(5)),
+        (5, "byte-407", machine, record()[:407] + bytes([128])),
+        (0, "none", machine, record(cpl=3, control=15)),
+    ]:
+        s.lend(f"refusal-cpuid-{name}-lend", lent)
+        for leaf in [7, 0]:
+            expect(f"cpuid-{name}", s.cpuid(f"refusal-cpuid-{name}-{leaf}", leaf, cpu=cpu), number)
+
+
 def lent_records(s):
     """Records that no list of calls reaches: refused, or taken to the letter."""
     absent = Machine(count=2, features=model.ALL_FEATURES)
@@ -838,6 +938,7 @@ def refusals(s):
     step_refusals(s)
     feature_refusals(s)
     register_refusals(s)
+    cpuid_refusals(s)
     lent_records(s)
 
 
@@ -957,10 +1058,20 @@ def random_step(rng, s, name):
     s.step(name, string, processor, record, memory, data)
 
 
+def random_cpuid(rng, s, name):
+    leaf = often(rng, lambda: rng.choice([7, 0x19, 0x19]), lambda: rng.choice([0, 6, 8, 0x18, 0x1A, 0x107, 0x80000019, rng.getrandbits(32)]), 0.8)
+    subleaf = often(rng, lambda: 0, lambda: rng.choice([1, 2**32 - 1, rng.getrandbits(32)]), 0.6)
+    cpu = random_cpu(rng)
+    if rng.random() < 0.5:
+        cpu.bytes[401] = rng.randrange(16)
+    record = bytes(cpu.bytes)
+    s.cpuid(name, leaf, subleaf, often(rng, lambda: record, lambda: rng.choice([record[:407], record + b"\0", b""]), 0.97))
+
+
 def random_call(rng, s, name):
     processor = often(rng, lambda: rng.randrange(s.machine[0] or 1), lambda: rng.randrange(256), 0.95)
     cpl = often(rng, lambda: 0, lambda: rng.randrange(6), 0.95)
-    kind = rng.choices(["step", "write", "read", "settle", "sleep", "reset", "lend", "power-on"], [30, 10, 4, 4, 3, 1, 4, 1])[0]
+    kind = rng.choices(["step", "write", "read", "cpuid", "settle", "sleep", "reset", "lend", "power-on"], [30, 10, 4, 4, 4, 3, 1, 4, 1])[0]
     if kind == "step":
         random_step(rng, s, name)
     elif kind == "write":
@@ -968,6 +1079,8 @@ def random_call(rng, s, name):
         s.write(name, processor, address, often(rng, lambda: 1, lambda: rng.choice([0, 2, 3, 2**63, rng.getrandbits(64)])), cpl)
     elif kind == "read":
         s.read(name, processor, often(rng, lambda: rng.choice([0x990, 0x991]), lambda: rng.choice([0xD91, 0xD92, rng.getrandbits(32)])), cpl)
+    elif kind == "cpuid":
+        random_cpuid(rng, s, name)
     elif kind == "settle":
         s.settle(name, often(rng, lambda: rng.randrange(2), lambda: rng.randrange(256)))
     elif kind == "sleep":

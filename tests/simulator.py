@@ -1,5 +1,5 @@
 #!/usr/bin/env python3
-"""The simulator, the files that make install installs, and the example for C: what make test-simulator runs, after make all.
+"""The simulator, the files that make install installs, and the examples for C: what make test-simulator runs, after make all.
 
 Traces' expectations are checked by tests/traces.py over the model in Python, so that a trace that the simulator meets has two witnesses.
 Prints a line for each test, and exits with 1 if one failed.
@@ -18,6 +18,7 @@ import tempfile
 import traceback
 from pathlib import Path
 
+import key_locker
 import traces
 
 ROOT = Path(__file__).resolve().parent.parent
@@ -25,6 +26,12 @@ PROGRAM = ROOT / "build/keylocker-simulator"
 HEADER = ROOT / "include/keylocker.h"
 EXAMPLE = ROOT / "tests/example.c"
 FIPS_197_C1 = "69c4e0d86a7b0430d8cdb78070b4c55a"
+PROBED_HANDLE = key_locker.wrap(b"\x5a" * 16, b"\x5a" * 32, bytes(16), b"\x2b" * 16).hex()
+# The programs in C, and what they print.
+EXAMPLES = {
+    EXAMPLE: f"{FIPS_197_C1}\n",
+    ROOT / "tests/probe.c": f"Key Locker, not enabled\nKey Locker, enabled; wide forms: yes\n{PROBED_HANDLE}\n",
+}
 STRICT = ["-Wall", "-Wextra", "-pedantic", "-Werror"]
 
 
@@ -105,6 +112,17 @@ sleep 3
 -- 2 wake code unknown
 cpu 1 read 0x990
 -- 3 the machine has no such processor
+cpu 1 cpuid 7
+-- 0 done: eax 0x0, ebx 0x0, ecx 0x800000 (KL), edx 0x0
+cpu 0 cpuid 0x19
+-- 0 done: eax 0x7 (cpl0-only, no-encrypt, no-decrypt), ebx 0x15 (AESKLE, WIDE_KL, backup), ecx 0x3 (no-backup, random), edx 0x0
+cpu 0 cpuid 0x1a
+-- 0 done: eax 0x0, ebx 0x0, ecx 0x0, edx 0x0
+cpu 0 cpl 4 cpuid 7
+-- 5 CPL above 3, or a zero field
+cpu 1 set record = 00*407
+cpu 1 cpuid 7
+-- 4 the CPU record does not have 408 bytes
 cpu 0 step 90
 -- 8 the string has a byte that no instruction has there
 cpu 0 step f3 0f
@@ -172,6 +190,8 @@ def altered(line):
         return found[1] + str(1 - int(found[2]))
     if found := re.match(r"(.*\bvalue )(\w+)", line):
         return found[1] + str(int(found[2], 0) + 1)
+    if found := re.match(r"(expect e[abcd]x )(\w+)", line, re.I):
+        return found[1] + str(int(found[2], 0) ^ 1)
     if found := re.match(r"(.*\brefused )(\d+)", line):
         return found[1] + str(int(found[2]) % 14 + 1)
     if re.match(r"expect done", line):
@@ -183,10 +203,22 @@ def altered(line):
 
 def test_unmet_by_refused(tmp):
     """What a refused call would have answered is not taken from the call before."""
-    head = "power-on 1\ncpu 0 loadiwkey 00*48\ncpu 0 read 0x990\n"
-    for refused, expect in [("cpu 0 step empty", "zf 0"), ("cpu 0 read 0x992", "value 0")]:
-        result = must(simulate(f"{head}{refused}\nexpect {expect}\n"), 1, refused)
+    head = "power-on 1\ncpu 0 loadiwkey 00*48\ncpu 0 read 0x990\ncpu 0 cpuid 0x19\n"
+    for refused, expect in [("step empty", "zf 0"), ("read 0x992", "value 0"), ("cpl 4 cpuid 0x19", "eax 7"), ("cpl 4 cpuid 0", "edx 0")]:
+        result = must(simulate(f"{head}cpu 0 {refused}\nexpect {expect}\n"), 1, refused)
         need(f"expect {expect}: NOT MET, the last call was refused" in result.stdout, result.stdout)
+
+
+def test_unmet_words(tmp):
+    """What was found instead."""
+    for call, expect, found in [
+        ("loadiwkey 00*48", "zf 1", "ZF is 0"),
+        ("read 0x990", "value 2", "the value is 0"),
+        ("cpuid 7", "ecx 0x400000", "ecx is 0x800000"),
+        ("cpuid 0x19", "ebx 5", "ebx is 0x15"),
+    ]:
+        result = must(simulate(f"power-on 1\ncpu 0 {call}\nexpect {expect}\n"), 1, call)
+        need(f"expect {expect}: NOT MET, {found}\n" in result.stdout, result.stdout)
 
 
 def test_unmet(tmp):
@@ -195,7 +227,7 @@ def test_unmet(tmp):
     for file in traces.TRACES:
         lines = file.read_text().splitlines()
         for number, line in enumerate(lines, 1):
-            if not re.match(r"(cpu \S+ )?expect ", line):
+            if not re.match(r"(cpu \S+ )?expect ", line, re.I):
                 continue
             text = "\n".join(lines[: number - 1] + [altered(line)] + lines[number:])
             result = must(simulate(text, "--quiet"), 1, f"{file.name}:{number} altered")
@@ -224,7 +256,7 @@ BAD_LINES = [
     ("cpu 256 show", "a number from 0 to 255"),
     ("cpu 0", "expected an instruction"),
     ("cpu 0 aesenc", "not 'aesenc'"),
-    ("cpu 0 cpl 3 set rax = 1", "expected an instruction, step, read or write behind cpl, not 'set'"),
+    ("cpu 0 cpl 3 set rax = 1", "expected an instruction, step, cpuid, read or write behind cpl, not 'set'"),
     ("cpu 0 loadiwkey 00*47", "48 bytes, and these are 47"),
     ("cpu 0 loadiwkey 00*48 random 00", "expected not-ready or random data, 48 bytes, and these are 1"),
     ("cpu 0 loadiwkey 00*48 no-decrypt", "expected the end of the line, not 'no-decrypt'"),
@@ -243,6 +275,13 @@ BAD_LINES = [
     ("cpu 0 step", "expected an instruction string in hexadecimal, or empty after 'step'"),
     ("cpu 0 step f3 0f 3", "'3' has an odd number of hexadecimal digits"),
     ("cpu 0 step 0xf3", "expected bytes without 0x"),
+    ("cpu 0 cpuid", "expected a leaf after 'cpuid'"),
+    ("cpu 0 cpuid 0x100000000", "expected a leaf, a number from 0 to 4294967295"),
+    ("cpu 0 cpuid 19h", "not '19h'"),
+    ("cpu 0 cpuid 7 0x100000000", "expected a subleaf, a number from 0 to 4294967295"),
+    ("cpu 0 cpuid 7 -> leaf", "expected a subleaf"),
+    ("cpu 0 cpuid 7 0 0", "expected the end of the line, not '0'"),
+    ("cpuid 7", "'cpuid' begins no statement"),
     ("cpu 0 read IA32_SOMETHING", "expected IA32_COPY_STATUS"),
     ("cpu 0 write 0xD91", "expected the value to be written after '0xD91'"),
     ("cpu 0 write 0xD91 0x10000000000000000", "not '0x10000000000000000'"),
@@ -271,11 +310,17 @@ BAD_LINES = [
     ("memory 1048575 = 0000", "expected at most 1 bytes from address 1048575 on"),
     ("memory size 1048578", "a number from 0 to 1048577"),
     ("machine 00", "expected '=', not '00'"),
-    ("expect", "expected done, refused, zf, value or bytes after 'expect'"),
+    ("expect", "expected done, refused, zf, value, eax, ebx, ecx, edx or bytes after 'expect'"),
     ("expect refused 15", "a number from 0 to 14"),
     ("expect refused 0", "0 is 'expect done'"),
     ("expect zf 2", "a number from 0 to 1"),
     ("expect value 1", "expected a read as the last call"),
+    ("expect eax 7", "expected a cpuid as the last call before 'expect eax'"),
+    ("cpu 0 expect edx 0", "expected a cpuid as the last call before 'expect edx'"),
+    ("expect ebx", "expected what CPUID answers after 'ebx'"),
+    ("expect ecx 0x100000000", "a number from 0 to 4294967295"),
+    ("expect ecx = 3", "not '='"),
+    ("bytes ecx = 00", "'ecx' cannot be a name, since it means something already"),
     ("expect done today", "expected the end of the line, not 'today'"),
     ("expect rax = 1", "'rax' belongs to a processor; expected cpu N"),
     ("expect good", "expected = after 'good'"),
@@ -416,7 +461,13 @@ def test_valgrind(tmp):
         return "no valgrind here"
     (tmp / "bad.trace").write_text(BEFORE + "sleep well\n")
     valgrind = ["valgrind", "-q", "--error-exitcode=99", "--leak-check=full", "--show-leak-kinds=definite,indirect,possible"]
-    for args, status in [([], 0), ([tmp / "bad.trace"], 2), (["-q", ROOT / "tests/traces/refusals.trace"], 0), (["--help"], 0)]:
+    for args, status in [
+        ([], 0),
+        ([tmp / "bad.trace"], 2),
+        (["-q", ROOT / "tests/traces/refusals.trace"], 0),
+        ([ROOT / "tests/traces/cpuid.trace"], 0),
+        (["--help"], 0),
+    ]:
         must(command(*valgrind, PROGRAM, *args), status, args)
 
 
@@ -434,9 +485,10 @@ def test_header(tmp):
     must(command("gcc", "-std=c11", *STRICT, "-fsyntax-only", "-x", "c", HEADER), 0, "header as C11")
     if shutil.which("g++"):
         must(command("g++", "-std=c++17", *STRICT, "-fsyntax-only", "-x", "c++", HEADER), 0, "header as C++17")
-        linked = ["g++", "-std=c++17", *STRICT, f"-I{ROOT}/include", "-x", "c++", EXAMPLE, "-x", "none", ROOT / "build/libkeylocker.a", "-o", tmp / "cxx"]
-        must(command(*linked), 0, "example as C++17")
-        need(must(command(tmp / "cxx"), 0, "example").stdout == FIPS_197_C1 + "\n", "example in C++")
+        for example, printed in EXAMPLES.items():
+            linked = ["g++", "-std=c++17", *STRICT, f"-I{ROOT}/include", "-x", "c++", example, "-x", "none", ROOT / "build/libkeylocker.a", "-o", tmp / "cxx"]
+            must(command(*linked), 0, f"{example.name} as C++17")
+            need(must(command(tmp / "cxx"), 0, example.name).stdout == printed, example.name, "in C++ prints something else")
 
 
 NUMBERS = {
@@ -458,6 +510,16 @@ NUMBERS = {
     "KEYLOCKER_MEMORY_LIMIT": 1_048_576,
     "KEYLOCKER_RFLAGS_OF": 1 << 11,
     "KEYLOCKER_BACKUP_CONSUMED": 1 << 3,
+    # 343965-001US, chapter 2
+    "KEYLOCKER_CPUID_7_ECX_KL": 1 << 23,
+    "KEYLOCKER_CPUID_19_EAX_CPL0_ONLY": 1 << 0,
+    "KEYLOCKER_CPUID_19_EAX_NO_ENCRYPT": 1 << 1,
+    "KEYLOCKER_CPUID_19_EAX_NO_DECRYPT": 1 << 2,
+    "KEYLOCKER_CPUID_19_EBX_AESKLE": 1 << 0,
+    "KEYLOCKER_CPUID_19_EBX_WIDE_KL": 1 << 2,
+    "KEYLOCKER_CPUID_19_EBX_BACKUP": 1 << 4,
+    "KEYLOCKER_CPUID_19_ECX_NO_BACKUP": 1 << 0,
+    "KEYLOCKER_CPUID_19_ECX_RANDOM": 1 << 1,
 }
 
 
@@ -485,10 +547,11 @@ def test_install(tmp):
     pc = prefix / "lib/pkgconfig/keylocker.pc"
     version = re.search('KEYLOCKER_VERSION "(.*)"', HEADER.read_text())[1]
     need("prefix=/opt/kl\n" in pc.read_text() and f"\nVersion: {version}\n" in pc.read_text(), pc.read_text())
-    shutil.copy(EXAMPLE, tmp / "example.c")
     flags = flags_of(pc, prefix)
-    must(command("gcc", "-std=c11", *STRICT, "example.c", "-o", "example", *flags, cwd=tmp), 0, flags)
-    need(must(command(tmp / "example"), 0, "example").stdout == FIPS_197_C1 + "\n", "the example prints something else")
+    for example, printed in EXAMPLES.items():
+        shutil.copy(example, tmp)
+        must(command("gcc", "-std=c11", *STRICT, example.name, "-o", "example", *flags, cwd=tmp), 0, flags)
+        need(must(command(tmp / "example"), 0, example.name).stdout == printed, example.name, "prints something else")
     need(must(command(prefix / "bin/keylocker-simulator"), 0, "installed simulator").stdout == command(PROGRAM).stdout, "installed simulator")
     must(command("make", "-C", ROOT, "all"), 0, "make all")
     need("prefix=/usr/local\n" in (ROOT / "build/keylocker.pc").read_text(), "PREFIX of the last make install stays")

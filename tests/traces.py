@@ -33,6 +33,7 @@ GENERAL = ["rax", "rcx", "rdx", "rbx", "rsp", "rbp", "rsi", "rdi"] + [f"r{n}" fo
 # Each as its place and size in the CPU record.
 REGISTERS = {name: (256 + 8 * n, 8) for n, name in enumerate(GENERAL)} | {"rip": (384, 8), "rflags": (392, 8), "cpl": (400, 1), "control": (401, 1)}
 XMM = {f"xmm{n}": n for n in range(16)}
+CPUID_REGISTERS = ["eax", "ebx", "ecx", "edx"]
 STOPS = ["->", "=", "random", "encryption", "no-backup", "cpl0-only", "no-encrypt", "no-decrypt", "restrict"]
 USES = {f"aes{way}{wide}{size}kl": None for way in ["enc", "dec"] for wide in ["", "wide"] for size in [128, 256]}
 OPCODES = {"aesenc128kl": 0xDC, "aesdec128kl": 0xDD, "aesenc256kl": 0xDE, "aesdec256kl": 0xDF, "encodekey128": 0xFA, "encodekey256": 0xFB, "loadiwkey": 0xDC}
@@ -55,7 +56,7 @@ class Trace:
         self.memory = bytearray(model.MEMORY_LIMIT + 1)
         self.memory_len = model.MEMORY_LIMIT
         self.names = {}
-        self.number = self.zf = self.value = None  # of the last call
+        self.number = self.zf = self.value = self.cpuid_answer = None  # of the last call
         self.fresh_cpus()
 
     def fresh_cpus(self):
@@ -121,7 +122,7 @@ class Trace:
 
     def call(self, function):
         """The call's result, or None where it is refused."""
-        self.number, self.zf, self.value = 0, None, None
+        self.number, self.zf, self.value, self.cpuid_answer = 0, None, None, None
         try:
             return function()
         except Refused as refused:
@@ -205,6 +206,10 @@ class Trace:
             found, wanted = self.zf, self.take_number()
         elif self.accept("value"):
             found, wanted = self.value, self.take_number()
+        elif first in CPUID_REGISTERS:
+            self.words.pop(0)
+            answer = self.cpuid_answer
+            found, wanted = answer and answer[CPUID_REGISTERS.index(first)], self.take_number()
         elif first in REGISTERS:
             self.words.pop(0)
             self.need("=")
@@ -221,14 +226,19 @@ class Trace:
 
     # ---- statements on a processor
 
+    def lent_record(self):
+        """The CPU record, with the CPL of the statement."""
+        record = bytearray(self.cpu)
+        if self.cpl is not None and len(record) > 400:
+            record[400] = self.cpl
+        return bytes(record)
+
     def step(self, string, random_data=b""):
         """Whether it was done."""
         own_cpl = self.cpu[400] if len(self.cpu) > 400 else None
-        before = bytearray(self.cpu)
-        if self.cpl is not None:
-            before[400] = self.cpl
+        before = self.lent_record()
         memory = memoryview(self.memory)[: self.memory_len]
-        after = self.call(lambda: model.step(self.machine, self.processor, bytes(before), memory, random_data, string))
+        after = self.call(lambda: model.step(self.machine, self.processor, before, memory, random_data, string))
         if after is None:
             return False
         self.machine, self.cpus[self.processor] = after[0], bytearray(after[1])
@@ -289,6 +299,12 @@ class Trace:
     def raw_step(self):
         string = b"" if self.accept("empty") else self.bytes()
         self.step(string, self.random_data() or b"")
+
+    def cpuid(self):
+        leaf = self.take_number()
+        subleaf = self.take_number() if self.words else 0
+        assert max(leaf, subleaf) < 2**32
+        self.cpuid_answer = self.call(lambda: model.cpuid(self.machine, self.lent_record(), leaf, subleaf))
 
     def register_address(self):
         word = self.words.pop(0)
@@ -357,6 +373,7 @@ STATEMENTS = {
 VERBS = {
     "loadiwkey": Trace.loadiwkey,
     "step": Trace.raw_step,
+    "cpuid": Trace.cpuid,
     "read": Trace.read,
     "write": Trace.write,
     "set": Trace.set_register,
@@ -456,11 +473,15 @@ class RandomTrace:
     def backup(self):
         return self.some("write 0xD91 1", "write 0xD92 1", "write 0xD92 0", "write 0xD91 3", "read 0x990", "read 0x991", "read 0xD91")
 
+    def cpuid(self):
+        leaf, subleaf = self.some("7", "0x19", "0x19", str(self.random.getrandbits(32))), self.some("", " 0", " 1", f" {self.random.getrandbits(32)}")
+        return f"cpuid {leaf}{subleaf}"
+
     def call(self):
         if self.random.random() < 0.12:
             return self.some("settle good", "settle bad", "settle 2", "sleep old", "sleep new", "sleep junk", "sleep 3")
         cpl = self.some("", "", "", "", " cpl 3")
-        what = self.random.choices([self.load, self.encode, self.use, self.raw, self.backup], [3, 3, 8, 2, 5])[0]
+        what = self.random.choices([self.load, self.encode, self.use, self.raw, self.cpuid, self.backup], [3, 3, 8, 2, 2, 5])[0]
         return f"cpu {self.random.randrange(3) if self.random.random() < 0.98 else 3}{cpl} {what()}"
 
     def expectations(self, text):
@@ -470,6 +491,8 @@ class RandomTrace:
             yield f"expect zf {trace.zf}"
         if trace.value is not None:
             yield f"expect value {trace.value}"
+        if trace.cpuid_answer is not None:
+            yield from (f"expect {register} {value}" for register, value in zip(CPUID_REGISTERS, trace.cpuid_answer))
         if text.startswith("cpu "):
             yield f"cpu {text.split()[1]} expect record = {trace.cpu.hex()}"
         yield f"expect machine = {trace.machine.hex()}"
@@ -477,6 +500,8 @@ class RandomTrace:
     def run(self, count):
         self.begin()
         for _ in range(count):
+            if self.random.random() < 0.1:
+                self.statement(f"cpu {self.random.randrange(3)} set control = {self.some(3, 3, 3, 2)}")
             text = self.call()
             self.statement(text)
             for expectation in list(self.expectations(text)):

@@ -1,6 +1,6 @@
-// A call's bytes: its kind, a processor (or the count, or a code), a CPL (or the features), one left free, an address (4 bytes) and a value (8), the
-// lengths of CPU record, memory, random data and string (2 each), numbers with the highest byte first. From 24 on the CPU record, from 440 the
-// memory, from 696 the random data, from 760 the string; or from 24 on a machine record, which takes the place of the machine at hand.
+// A call's bytes: its kind, a processor (or the count, or a code), a CPL (or the features), one left free, an address (or a leaf; 4 bytes) and a value (or
+// a subleaf; 8), the lengths of CPU record, memory, random data and string (2 each), numbers with the highest byte first. From 24 on the CPU record, from
+// 440 the memory, from 696 the random data, from 760 the string; or from 24 on a machine record, which takes the place of the machine at hand.
 // Kinds are those of print_kind.
 ghost use mathlib.Core.Path.{_≡_};
 ghost use Prim.Native.Nat.{_≤_};
@@ -11,6 +11,7 @@ use crate::print::print_changes;
 use crate::print::print_decimal;
 use crate::print::print_word;
 use crate::print::word;
+use cpuid_model::Leaf;
 use layout::read_machine;
 use layout::write_machine;
 use lent::Stepped;
@@ -29,7 +30,8 @@ fn print_kind(kind: u8) {
         4 => print(b" sleep"),
         5 => print(b" reset"),
         6 => print(b" step"),
-        _ => print(b" lend"),
+        7 => print(b" lend"),
+        _ => print(b" cpuid"),
     }
 }
 
@@ -42,7 +44,7 @@ fn print_machine(before: Machine, after: Machine) {
     print(b"\n");
 }
 
-// All calls but step.
+// All calls but step and CPUID.
 fn outcome(m: Machine, a: [u8; 960]) -> Outcome {
     let x = a[1];
     let y = a[2];
@@ -111,6 +113,30 @@ fn step(m: Machine, a: &[u8], b: &mut [u8]) -> Machine
     after
 }
 
+fn print_registers(r: Leaf) {
+    print(b" eax ");
+    print_word(r.eax);
+    print(b" ebx ");
+    print_word(r.ebx);
+    print(b" ecx ");
+    print_word(r.ecx);
+    print(b" edx ");
+    print_word(r.edx);
+}
+
+fn cpuid(m: Machine, a: &[u8])
+    requires { ⌜ length (now a) ≡ 960 ⌝ }
+{
+    let c = 24 + length_at(a, 16, 416);
+    let x = machine::cpuid(m, &a[24..c], word(a, 4), word(a, 12));
+    let answer = x.answer;
+    let registers = x.registers;
+    if print_answer(answer) {
+        print_registers(registers);
+    }
+    print_machine(m, m);
+}
+
 // The machine after the call of a line.
 fn call(m: Machine, text: &[u8]) -> Machine {
     let n = find(text, 0, b' ');
@@ -123,10 +149,14 @@ fn call(m: Machine, text: &[u8]) -> Machine {
             let mut b = a;
             step(m, &a, &mut b)
         }
-        _ => {
+        7 => {
             let after = read_machine(&a[24..948]);
             print_machine(m, after);
             after
+        }
+        _ => {
+            cpuid(m, &a);
+            m
         }
     }
 }
