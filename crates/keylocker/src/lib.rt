@@ -5,8 +5,8 @@ ghost use Rattle.model.specs.Layout.{machineSize};
 ghost use Rattle.keylocker.specs.Meaning.{called, finished};
 ghost use Rattle.keylocker.specs.Promises.{PowerOnPromise, StepPromise, ReadPromise, WritePromise, SettlePromise, SleepPromise, ResetPromise, CpuidPromise};
 use layout::read_machine;
-use layout::write_entry;
-use layout::write_machine;
+use layout_write::write_entry;
+use layout_write::write_machine;
 use machine::Outcome;
 use step::Answer;
 

@@ -1,4 +1,4 @@
-// The scope, "Records": "For C it is lent as 924 bytes". A call reads and writes them all, so bytes go in runs of fixed length, which are
+// The scope, "Records": "For C it is lent as 924 bytes". The machine in them. A call reads them all, so bytes go in runs of fixed length, which are
 // compiled to wide moves.
 ghost use mathlib.Core.Path.{_≡_};
 ghost use Prim.Native.Nat.{_+_, _*_, _%_, _≤_, _<_};
@@ -13,32 +13,30 @@ use model::Platform;
 use model::Processor;
 use model::Slot;
 
-// Sizes are sums of their parts, and a place is counted from the start of what holds it.
-const INTEGRITY_SIZE: usize = 16;
+// Sizes are sums of their parts, and a place is counted from the start of what holds it. `layout_write` goes by the same.
+pub const INTEGRITY_SIZE: usize = 16;
 
-const SOURCE: usize = INTEGRITY_SIZE + 32;
+pub const SOURCE: usize = INTEGRITY_SIZE + 32;
 
-const NO_BACKUP: usize = SOURCE + 1;
+pub const NO_BACKUP: usize = SOURCE + 1;
 
-const KEY_SIZE: usize = NO_BACKUP + 1;
+pub const KEY_SIZE: usize = NO_BACKUP + 1;
 
-const ENTRY_SIZE: usize = KEY_SIZE + 1;
+pub const ENTRY_SIZE: usize = KEY_SIZE + 1;
 
-const SLOT_SIZE: usize = 1 + KEY_SIZE;
+pub const SLOT_SIZE: usize = 1 + KEY_SIZE;
 
-const PENDING: usize = 2 * SLOT_SIZE;
+pub const PENDING: usize = 2 * SLOT_SIZE;
 
-const VALID: usize = PENDING + 1;
+pub const VALID: usize = PENDING + 1;
 
-const ERROR: usize = VALID + 1;
+pub const ERROR: usize = VALID + 1;
 
-const CONSUMED: usize = ERROR + 1;
+pub const CONSUMED: usize = ERROR + 1;
 
-const ENTRIES: usize = 2;
+pub const ENTRIES: usize = 2;
 
-const PLATFORM: usize = ENTRIES + 16 * ENTRY_SIZE;
-
-// ---- reading
+pub const PLATFORM: usize = ENTRIES + 16 * ENTRY_SIZE;
 
 fn bytes_16(s: &[u8], at: usize) -> [u8; 16]
     requires { ⌜ at + 16 ≤ length (now s) ⌝ }
@@ -163,100 +161,4 @@ pub fn read_machine(s: &[u8]) -> Machine
         processors,
         platform,
     }
-}
-
-// ---- writing
-
-fn put_16(s: &mut [u8], at: usize, a: [u8; 16])
-    requires { ⌜ at + 16 ≤ length (now s) ⌝ }
-    ensures { λ _. ⌜ now (s .exit) ≡ sets (now (s .entry)) at a ⌝ }
-{
-    for i in 0..16usize {
-        s[at + i] = a[i];
-    }
-}
-
-fn put_32(s: &mut [u8], at: usize, a: [u8; 32])
-    requires { ⌜ at + 32 ≤ length (now s) ⌝ }
-    ensures { λ _. ⌜ now (s .exit) ≡ sets (now (s .entry)) at a ⌝ }
-{
-    for i in 0..32usize {
-        s[at + i] = a[i];
-    }
-}
-
-// From here on each function also says how many bytes it wrote, so that its caller knows where the next run begins.
-fn put_key(s: &mut [u8], at: usize, k: IwKey)
-    requires { ⌜ at + layout.iwKeySize ≤ length (now s) ⌝ }
-    ensures { λ _. ⌜ (now (s .exit) ≡ sets (now (s .entry)) at (layout.keyBytes k)) × (length (layout.keyBytes k) ≡ layout.iwKeySize) ⌝ }
-{
-    let integrity = k.integrity;
-    let encryption = k.encryption;
-    put_16(s, at, integrity);
-    put_32(s, at + INTEGRITY_SIZE, encryption);
-    s[at + SOURCE] = k.source;
-    s[at + NO_BACKUP] = k.no_backup;
-}
-
-fn put_entry(s: &mut [u8], at: usize, e: Processor)
-    requires { ⌜ at + layout.entrySize ≤ length (now s) ⌝ }
-    ensures { λ _. ⌜ (now (s .exit) ≡ sets (now (s .entry)) at (layout.entryBytes e)) × (length (layout.entryBytes e) ≡ layout.entrySize) ⌝ }
-{
-    let key = e.key;
-    put_key(s, at, key);
-    s[at + KEY_SIZE] = e.copy_status;
-}
-
-fn put_entries(s: &mut [u8], at: usize, l: [Processor; 16])
-    requires { ⌜ at + processorLimit * layout.entrySize ≤ length (now s) ⌝ }
-    ensures { λ _. ⌜ (now (s .exit) ≡ sets (now (s .entry)) at (layout.entriesBytes l)) × (length (layout.entriesBytes l) ≡ processorLimit * layout.entrySize) ⌝ }
-{
-    for i in 0..16usize {
-        let e = l[i];
-        put_entry(s, at + i * ENTRY_SIZE, e);
-    }
-}
-
-fn put_slot(s: &mut [u8], at: usize, t: Slot)
-    requires { ⌜ at + layout.slotSize ≤ length (now s) ⌝ }
-    ensures { λ _. ⌜ (now (s .exit) ≡ sets (now (s .entry)) at (layout.slotBytes t)) × (length (layout.slotBytes t) ≡ layout.slotSize) ⌝ }
-{
-    let key = t.key;
-    s[at] = t.present;
-    put_key(s, at + 1, key);
-}
-
-fn put_platform(s: &mut [u8], at: usize, f: Platform)
-    requires { ⌜ at + layout.platformSize ≤ length (now s) ⌝ }
-    ensures { λ _. ⌜ (now (s .exit) ≡ sets (now (s .entry)) at (layout.platformBytes f)) × (length (layout.platformBytes f) ≡ layout.platformSize) ⌝ }
-{
-    let backup = f.backup;
-    let store = f.store;
-    put_slot(s, at, backup);
-    put_slot(s, at + SLOT_SIZE, store);
-    s[at + PENDING] = f.pending;
-    s[at + VALID] = f.valid;
-    s[at + ERROR] = f.error;
-    s[at + CONSUMED] = f.consumed;
-}
-
-pub fn write_machine(s: &mut [u8], m: Machine)
-    requires { ⌜ length (now s) ≡ layout.machineSize ⌝ }
-    ensures { λ _. ⌜ now (s .exit) ≡ layout.machineBytes m ⌝ }
-{
-    let processors = m.processors;
-    let platform = m.platform;
-    s[0] = m.count;
-    s[1] = m.features;
-    put_entries(s, ENTRIES, processors);
-    put_platform(s, PLATFORM, platform);
-}
-
-// A processor's entry alone, where nothing else of the machine has changed.
-pub fn write_entry(s: &mut [u8], p: u8, e: Processor)
-    requires { ⌜ length (now s) ≡ layout.machineSize ⌝ }
-    ensures { λ _. ⌜ now (s .exit) ≡ sets (now (s .entry)) (2 + p % 16 * layout.entrySize) (layout.entryBytes e) ⌝ }
-{
-    let i = (p % 16) as usize;
-    put_entry(s, ENTRIES + i * ENTRY_SIZE, e);
 }

@@ -13,7 +13,7 @@ use crate::print::print_word;
 use crate::print::word;
 use cpuid_model::Leaf;
 use layout::read_machine;
-use layout::write_machine;
+use layout_write::write_machine;
 use lent::Stepped;
 use lent::step_through;
 use line::bytes;

@@ -1,10 +1,10 @@
 use mathlib.Core.Path.{_≡_}
 use native.Mathlib.Omega.{arith}
 use lib.ListN.{length, length-set}
-use Rattle.layout.proofs.Write.{key-length, key-written}
+use Rattle.layout_write.proofs.Write.{key-length, key-written}
 use borrow.Author.Needs.{needs}
-use Rattle.layout.proofs.put_key.Statement.{statement}
-use Rattle.layout.proofs.put_key.Tie as tie
+use Rattle.layout_write.proofs.put_key.Statement.{statement}
+use Rattle.layout_write.proofs.put_key.Tie as tie
 
 put-16-requires : tie.Need-put-16-requires
 put-16-requires c κs = search needs

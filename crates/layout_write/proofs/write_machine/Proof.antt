@@ -1,10 +1,10 @@
 use mathlib.Core.Path.{_∙_}
 use native.Mathlib.Omega.{arith}
 use lib.ListN.{length-set}
-use Rattle.layout.proofs.Write.{machine-written}
+use Rattle.layout_write.proofs.Write.{machine-written}
 use borrow.Author.Needs.{needs}
-use Rattle.layout.proofs.write_machine.Statement.{statement}
-use Rattle.layout.proofs.write_machine.Tie as tie
+use Rattle.layout_write.proofs.write_machine.Statement.{statement}
+use Rattle.layout_write.proofs.write_machine.Tie as tie
 
 slice-write-s : tie.Need-slice-write-s
 slice-write-s c = search needs

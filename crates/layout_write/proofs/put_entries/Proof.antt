@@ -10,9 +10,9 @@ use lib.Seq.{sets, take-all}
 use Rattle.model.specs.Records.{noProcessor}
 use Rattle.model.specs.Layout.{entrySize, entriesBytes}
 use Rattle.model.specs.declared.Processor.{Processor}
-use Rattle.layout.proofs.Write.{entries-length, entries-written}
-use Rattle.layout.proofs.put_entries.Statement.{statement}
-use Rattle.layout.proofs.put_entries.Tie as tie
+use Rattle.layout_write.proofs.Write.{entries-length, entries-written}
+use Rattle.layout_write.proofs.put_entries.Statement.{statement}
+use Rattle.layout_write.proofs.put_entries.Tie as tie
 
 abbrev Inv-loop : tie.InvT-loop
 Inv-loop s₀ at l i₀ s i =

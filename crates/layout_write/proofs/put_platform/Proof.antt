@@ -1,9 +1,9 @@
 use native.Mathlib.Omega.{arith}
 use lib.ListN.{length-set}
-use Rattle.layout.proofs.Write.{platform-length, platform-written}
+use Rattle.layout_write.proofs.Write.{platform-length, platform-written}
 use borrow.Author.Needs.{needs}
-use Rattle.layout.proofs.put_platform.Statement.{statement}
-use Rattle.layout.proofs.put_platform.Tie as tie
+use Rattle.layout_write.proofs.put_platform.Statement.{statement}
+use Rattle.layout_write.proofs.put_platform.Tie as tie
 
 put-slot-requires : tie.Need-put-slot-requires
 put-slot-requires c κs = search needs

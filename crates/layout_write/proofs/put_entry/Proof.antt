@@ -1,7 +1,7 @@
-use Rattle.layout.proofs.Write.{entry-length, entry-written}
+use Rattle.layout_write.proofs.Write.{entry-length, entry-written}
 use borrow.Author.Needs.{needs}
-use Rattle.layout.proofs.put_entry.Statement.{statement}
-use Rattle.layout.proofs.put_entry.Tie as tie
+use Rattle.layout_write.proofs.put_entry.Statement.{statement}
+use Rattle.layout_write.proofs.put_entry.Tie as tie
 
 put-key-requires : tie.Need-put-key-requires
 put-key-requires c κs = search needs

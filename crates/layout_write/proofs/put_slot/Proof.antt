@@ -2,10 +2,10 @@ use mathlib.Core.Path.{_∙_, ap}
 use Prim.Native.Nat.{suc}
 use native.Mathlib.Omega.{arith}
 use lib.ListN.{length-set}
-use Rattle.layout.proofs.Write.{slot-written}
+use Rattle.layout_write.proofs.Write.{slot-written}
 use borrow.Author.Needs.{needs}
-use Rattle.layout.proofs.put_slot.Statement.{statement}
-use Rattle.layout.proofs.put_slot.Tie as tie
+use Rattle.layout_write.proofs.put_slot.Statement.{statement}
+use Rattle.layout_write.proofs.put_slot.Tie as tie
 
 slice-write-s : tie.Need-slice-write-s
 slice-write-s c = search needs
