@@ -16,7 +16,7 @@ enum { WIDE_BLOCKS = 8, HANDLES = 64, PROCESSORS = 16 };
 
 // ---- what is called
 
-enum op { ENCODE, ENCRYPT, DECRYPT, ENCRYPT_WIDE, DECRYPT_WIDE, LOAD, WRITE, READ, BAD_STRING, ILLEGAL, OPS };
+enum op { ENCODE, ENCRYPT, DECRYPT, ENCRYPT_WIDE, DECRYPT_WIDE, LOAD, WRITE, READ, CPUID, BAD_STRING, ILLEGAL, OPS };
 
 static size_t blocks_of(int op) { return op == ENCRYPT_WIDE || op == DECRYPT_WIDE ? WIDE_BLOCKS : 1; }
 static bool is_decryption(int op) { return op == DECRYPT || op == DECRYPT_WIDE; }
@@ -198,6 +198,14 @@ static uint32_t repeat_registers(const struct row *row, size_t reps)
     return answers;
 }
 
+static uint32_t repeat_cpuid(size_t reps)
+{
+    uint32_t answers = 0, eax, ebx, ecx, edx;
+    for (size_t i = 0; i < reps; i++)
+        answers |= keylocker_cpuid(machine, sizeof machine, cpu, sizeof cpu, 0x19, 0, &eax, &ebx, &ecx, &edx);
+    return answers;
+}
+
 static void repeat_core(const struct core *core, const struct row *row, size_t reps)
 {
     static uint8_t data[WIDE_BLOCKS * BLOCK_BYTES];
@@ -233,6 +241,8 @@ static double slice_ns(int core, const struct row *row, size_t reps)
         repeat_core(&cores[core], row, reps);
     else if (row->op == WRITE || row->op == READ)
         got = repeat_registers(row, reps);
+    else if (row->op == CPUID)
+        got = repeat_cpuid(reps);
     else
         got = repeat_steps(row, reps);
     double end = now_ns();
@@ -250,7 +260,8 @@ static const char *label_of(const struct row *row)
         [DECRYPT] = "AESDEC%dKL",          [ENCRYPT_WIDE] = "AESENCWIDE%dKL",
         [DECRYPT_WIDE] = "AESDECWIDE%dKL", [LOAD] = "LOADIWKEY",
         [WRITE] = "write 0xD92",           [READ] = "read 0x990",
-        [BAD_STRING] = "a string refused", [ILLEGAL] = "AESENC%dKL, illegal handle",
+        [CPUID] = "CPUID leaf 0x19",       [BAD_STRING] = "a string refused",
+        [ILLEGAL] = "AESENC%dKL, illegal handle",
     };
     char form[64];
     snprintf(form, sizeof form, "%s%s", names[row->op], row->count == 1 ? ", 1 processor" : "");
@@ -281,8 +292,8 @@ int main(void)
     struct row others[] = {
         {.op = ILLEGAL, .alone = true},    {.op = ILLEGAL, .alone = true, .count = 1},
         {.op = LOAD, .alone = true},       {.op = WRITE, .alone = true},
-        {.op = READ, .alone = true},       {.op = BAD_STRING, .alone = true},
-        {.op = BAD_STRING, .alone = true, .count = 1},
+        {.op = READ, .alone = true},       {.op = CPUID, .alone = true},
+        {.op = BAD_STRING, .alone = true}, {.op = BAD_STRING, .alone = true, .count = 1},
     };
     size_t count = sizeof rows / sizeof *rows, other = sizeof others / sizeof *others;
 

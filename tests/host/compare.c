@@ -12,7 +12,7 @@
 
 const uint64_t VALUE_BEFORE = UINT64_C(0xA5C3960F1E2D4B78);
 
-const char *const call_names[CALL_KINDS] = {"power-on", "step", "read", "write", "settle", "sleep", "reset"};
+const char *const call_names[CALL_KINDS] = {"power-on", "step", "read", "write", "settle", "sleep", "reset", "cpuid"};
 
 /* A buffer of exactly its length, so that valgrind sees any access behind it. Of no bytes it is a null pointer or an empty allocation. */
 static struct buffer exact_copy(const struct trial *t, struct buffer from)
@@ -27,15 +27,27 @@ static struct buffer exact_copy(const struct trial *t, struct buffer from)
     return copy;
 }
 
+/* each result is a place of its own, so that valgrind sees one that is written wider than it is */
+static void lend_results(const struct trial *t, struct results *results)
+{
+    results->value = malloc(sizeof *results->value);
+    if (!results->value)
+        abort();
+    *results->value = VALUE_BEFORE;
+    for (int i = 0; i < LEAF_REGISTERS; i++) {
+        results->leaf[i] = malloc(sizeof *results->leaf[i]);
+        if (!results->leaf[i])
+            abort();
+        *results->leaf[i] = t->leaf_before[i];
+    }
+}
+
 static void copy_lent(const struct trial *t, struct run *run)
 {
     run->call = t->call;
     run->machine = exact_copy(t, t->machine);
     run->call.cpu = exact_copy(t, t->call.cpu);
-    run->value = malloc(sizeof *run->value);
-    if (!run->value)
-        abort();
-    *run->value = VALUE_BEFORE;
+    lend_results(t, &run->results);
 }
 
 static uint32_t library_call(struct run *r)
@@ -48,13 +60,16 @@ static uint32_t library_call(struct run *r)
         return keylocker_step(r->machine.bytes, r->machine.length, c->processor, c->cpu.bytes, c->cpu.length, c->memory.bytes, c->memory.length,
                               c->random.bytes, c->random.length, c->string.bytes, c->string.length);
     case READ:
-        return keylocker_read(r->machine.bytes, r->machine.length, c->processor, c->cpl, c->address, r->value);
+        return keylocker_read(r->machine.bytes, r->machine.length, c->processor, c->cpl, c->address, r->results.value);
     case WRITE:
         return keylocker_write(r->machine.bytes, r->machine.length, c->processor, c->cpl, c->address, c->value);
     case SETTLE:
         return keylocker_settle(r->machine.bytes, r->machine.length, c->code);
     case SLEEP:
         return keylocker_sleep(r->machine.bytes, r->machine.length, c->code);
+    case CPUID:
+        return keylocker_cpuid(r->machine.bytes, r->machine.length, c->cpu.bytes, c->cpu.length, c->leaf, c->subleaf, r->results.leaf[EAX],
+                               r->results.leaf[EBX], r->results.leaf[ECX], r->results.leaf[EDX]);
     default:
         return keylocker_reset(r->machine.bytes, r->machine.length);
     }
@@ -76,7 +91,11 @@ static void misuse(struct run *r)
     if (FAULT(REFUSED_WRITES_CPU) && r->number && c->cpu.length)
         c->cpu.bytes[c->cpu.length - 1] ^= 1;
     if (FAULT(REFUSED_WRITES_VALUE) && r->number)
-        *r->value = 0;
+        *r->results.value = 0;
+    if (FAULT(REFUSED_WRITES_EDX) && r->number && c->kind == CPUID)
+        *r->results.leaf[EDX] = 0;
+    if (FAULT(CPUID_WRITES_MACHINE) && c->kind == CPUID && r->machine.length)
+        r->machine.bytes[r->machine.length - 1] ^= 1;
     if (FAULT(BEHIND_MACHINE) && r->machine.bytes)
         behind = r->machine.bytes[r->machine.length];
     if (FAULT(BEHIND_CPU) && c->cpu.bytes)
@@ -87,6 +106,8 @@ static void misuse(struct run *r)
         behind = c->random.bytes[c->random.length];
     if (FAULT(BEHIND_STRING) && c->string.bytes)
         behind = c->string.bytes[c->string.length];
+    if (FAULT(BEHIND_CPUID) && c->kind == CPUID && c->cpu.bytes)
+        behind = c->cpu.bytes[c->cpu.length];
     (void)behind;
 }
 
@@ -105,7 +126,7 @@ void run_library(const struct trial *t, struct run *run)
 void run_model(const struct trial *t, struct run *run)
 {
     copy_lent(t, run);
-    run->number = model_call(run->machine, &run->call, run->value);
+    run->number = model_call(run->machine, &run->call, &run->results);
     run->call.memory.bytes = run->call.random.bytes = run->call.string.bytes = NULL;
 }
 
@@ -116,7 +137,9 @@ void run_free(struct run *run)
     free(run->call.memory.bytes);
     free(run->call.random.bytes);
     free(run->call.string.bytes);
-    free(run->value);
+    free(run->results.value);
+    for (int i = 0; i < LEAF_REGISTERS; i++)
+        free(run->results.leaf[i]);
 }
 
 static bool same(struct buffer a, struct buffer b)
@@ -124,28 +147,49 @@ static bool same(struct buffer a, struct buffer b)
     return a.length == b.length && (a.length == 0 || memcmp(a.bytes, b.bytes, a.length) == 0);
 }
 
+static bool same_results(const struct results *a, const struct results *b)
+{
+    for (int i = 0; i < LEAF_REGISTERS; i++)
+        if (*a->leaf[i] != *b->leaf[i])
+            return false;
+    return *a->value == *b->value;
+}
+
+static bool results_as_before(const struct trial *t, const struct results *results)
+{
+    for (int i = 0; i < LEAF_REGISTERS; i++)
+        if (*results->leaf[i] != t->leaf_before[i])
+            return false;
+    return *results->value == VALUE_BEFORE;
+}
+
 const char *difference(const struct trial *t, const struct run *library, const struct run *model)
 {
+    bool machine_kept = same(library->machine, t->machine), cpu_kept = same(library->call.cpu, t->call.cpu);
     if (library->number != model->number)
         return "number";
     if (!same(library->machine, model->machine))
         return "machine";
     if (!same(library->call.cpu, model->call.cpu))
         return "CPU record";
-    if (*library->value != *model->value)
-        return "value";
+    if (!same_results(&library->results, &model->results))
+        return t->call.kind == CPUID ? "a register of CPUID" : "value";
     if (!same(library->call.memory, t->call.memory) || !same(library->call.random, t->call.random) || !same(library->call.string, t->call.string))
         return "memory, random data or string written";
-    if (library->number && (!same(library->machine, t->machine) || !same(library->call.cpu, t->call.cpu) || *library->value != VALUE_BEFORE))
+    if (library->number && (!machine_kept || !cpu_kept || !results_as_before(t, &library->results)))
         return "a refused call wrote";
-    if (t->call.kind == READ && !same(library->machine, t->machine))
+    if (t->call.kind == READ && !machine_kept)
         return "a read wrote the machine";
+    if (t->call.kind == CPUID && (!machine_kept || !cpu_kept))
+        return "CPUID wrote the machine or the CPU record";
     if (t->meant != ANY_NUMBER && library->number != t->meant)
         return "not the number that the call was made for";
     return NULL;
 }
 
 /* ---- reports ---- */
+
+static const char *const leaf_names[LEAF_REGISTERS] = {"EAX", "EBX", "ECX", "EDX"};
 
 static void print_buffer(const char *name, struct buffer buffer)
 {
@@ -180,11 +224,13 @@ static void print_arguments(const struct trial *t)
         if (t->spoils[i] >= 0)
             printf("  spoiled: %s (%u)\n", spoils[t->spoils[i]].reason, spoils[t->spoils[i]].number);
     printf("  count %u, features 0x%02x, processor %u, cpl %u, ", c->count, c->features, c->processor, c->cpl);
-    printf("address 0x%" PRIx32 ", value 0x%" PRIx64 ", code %u\n", c->address, c->value, c->code);
+    printf("address 0x%" PRIx32 ", value 0x%" PRIx64 ", code %u, ", c->address, c->value, c->code);
+    printf("leaf 0x%" PRIx32 ", subleaf 0x%" PRIx32 "\n", c->leaf, c->subleaf);
     print_buffer("machine", t->machine);
+    if (c->kind == STEP || c->kind == CPUID)
+        print_buffer("CPU record", c->cpu);
     if (c->kind != STEP)
         return;
-    print_buffer("CPU record", c->cpu);
     print_buffer("memory", c->memory);
     print_buffer("random data", c->random);
     print_buffer("string", c->string);
@@ -197,7 +243,10 @@ void report(const struct trial *t, const struct run *library, const struct run *
     printf("  number: library %u, model %u", library->number, model->number);
     if (t->meant != ANY_NUMBER)
         printf(", meant %u", t->meant);
-    printf("\n  value: library 0x%" PRIx64 ", model 0x%" PRIx64 "\n", *library->value, *model->value);
+    printf("\n  value: library 0x%" PRIx64 ", model 0x%" PRIx64 "\n", *library->results.value, *model->results.value);
+    for (int i = 0; i < LEAF_REGISTERS; i++)
+        printf("  %s: before 0x%" PRIx32 ", library 0x%" PRIx32 ", model 0x%" PRIx32 "\n", leaf_names[i], t->leaf_before[i], *library->results.leaf[i],
+               *model->results.leaf[i]);
     print_first_difference("machine", t->machine, library->machine, model->machine);
     print_first_difference("CPU record", t->call.cpu, library->call.cpu, model->call.cpu);
 }

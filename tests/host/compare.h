@@ -8,7 +8,7 @@
 struct run {
     struct buffer machine;
     struct call call;
-    uint64_t *value;
+    struct results results;
     uint32_t number;
 };
 

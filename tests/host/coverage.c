@@ -3,6 +3,7 @@
 #include <stdio.h>
 #include <string.h>
 
+#include "cpuid.h"
 #include "refusals.h"
 #include "spoil.h"
 
@@ -48,6 +49,24 @@
     X(SLEEP_AFTER_BAD, "sleep with a backup and no store")                            \
     X(RESET_BACKUP, "reset with a backup")                                            \
     X(PLATFORM_NO_FEATURES, "settle, sleep or reset without KL or backup feature")    \
+    X(CPUID_7_0, "CPUID leaf 7, subleaf 0")                                           \
+    X(CPUID_7_0_NO_KL, "CPUID leaf 7, subleaf 0, without the KL feature")             \
+    X(CPUID_7_OTHER, "CPUID leaf 7, another subleaf")                                 \
+    X(CPUID_19_0, "CPUID leaf 0x19, subleaf 0")                                       \
+    X(CPUID_19_OTHER, "CPUID leaf 0x19, another subleaf")                             \
+    X(CPUID_19_EM, "CPUID leaf 0x19, AESKLE under CR0.EM")                            \
+    X(CPUID_LOW_BYTE, "CPUID of a leaf with 7 or 0x19 in the low byte alone")         \
+    X(CPUID_OTHER, "CPUID of another leaf")                                           \
+    X(CPUID_CPL_0, "CPUID at CPL 0")                                                  \
+    X(CPUID_CPL_1, "CPUID at CPL 1")                                                  \
+    X(CPUID_CPL_2, "CPUID at CPL 2")                                                  \
+    X(CPUID_CPL_3, "CPUID at CPL 3")                                                  \
+    X(CPUID_1_4, "CPUID, 1 before 4")                                                 \
+    X(CPUID_1_5, "CPUID, 1 before 5")                                                 \
+    X(CPUID_4_5, "CPUID, 4 before 5")                                                 \
+    X(CPUID_NULL, "CPUID with a null pointer for the CPU record")                     \
+    X(CPUID_407, "CPUID with a CPU record of 407 bytes")                              \
+    X(CPUID_409, "CPUID with a CPU record of 409 bytes")                              \
     X(POWER_ON_BAD_RECORD, "power-on over a record that refusal 1 names")             \
     X(MADE_RECORD, "calls on a record just made by hand")                             \
     X(MEMORY_FULL, "steps with 1,048,576 bytes of memory")                            \
@@ -88,11 +107,18 @@ static const char *const shape_texts[] = {
     OPERAND_SHAPES(SHAPE)
 #undef SHAPE
 };
+static const char *const probed_texts[] = {
+#define PROBED(name, text) text,
+    PROBED_EXCEPTIONS(PROBED)
+#undef PROBED
+};
+static const char *const feature_texts[] = {"KL", "firmware", "wide forms", "backup registers", "NoBackup", "random source"};
 static const char *const use_texts[] = {"AESENC128KL",     "AESDEC128KL",     "AESENC256KL",     "AESDEC256KL",
                                         "AESENCWIDE128KL", "AESDECWIDE128KL", "AESENCWIDE256KL", "AESDECWIDE256KL"};
 
 enum { SPOILS_MOST = 128 };
 static unsigned long numbers[CALL_KINDS][NUMBERS], events[EVENT_COUNT], uses[USE_FORMS][2], origins[ORIGINS][2], shapes[SHAPES][2];
+static unsigned long probed_exceptions[PROBED_COUNT][2], leaves[F_ALL + 1][2]; /* of leaf 0x19 by features and CR4.KL */
 static unsigned long spoiled_alone[SPOILS_MOST], spoiled_first[SPOILS_MOST], orders[NUMBERS][NUMBERS];
 
 /* Which refusals a kind of call meets ("a check that a call has no operand for is skipped"). */
@@ -107,6 +133,8 @@ static bool meets(enum call_kind kind, unsigned number)
     case SETTLE:
     case SLEEP:
         return number <= R2_CODE;
+    case CPUID:
+        return number <= R1_MACHINE || number == R4_CPU_LENGTH || number == R5_CPU;
     default:
         return number <= R1_MACHINE;
     }
@@ -231,19 +259,55 @@ static void cover_platform(const struct trial *t, const struct machine *before)
     note(t->call.kind != STEP && (before->features & (F_KL | F_BACKUP)) != (F_KL | F_BACKUP), EVENT_PLATFORM_NO_FEATURES);
 }
 
+static void cover_leaf(const struct trial *t, uint8_t features)
+{
+    const struct cpu *cpu = (const struct cpu *)t->call.cpu.bytes;
+    uint32_t leaf = t->call.leaf, low = leaf & 0xFF;
+    bool seven = leaf == LEAF_FEATURES, key_locker = leaf == LEAF_KEY_LOCKER, first = t->call.subleaf == 0, kl = features & F_KL;
+    note(seven && first, kl ? EVENT_CPUID_7_0 : EVENT_CPUID_7_0_NO_KL);
+    note(seven && !first, EVENT_CPUID_7_OTHER);
+    note(key_locker, first ? EVENT_CPUID_19_0 : EVENT_CPUID_19_OTHER);
+    note(key_locker && kl && features & F_FIRMWARE && cpu->control & C_CR4_KL && cpu->control & C_EM, EVENT_CPUID_19_EM);
+    note(leaf > 0xFF && (low == LEAF_FEATURES || low == LEAF_KEY_LOCKER), EVENT_CPUID_LOW_BYTE);
+    note(!seven && !key_locker, EVENT_CPUID_OTHER);
+    note(true, EVENT_CPUID_CPL_0 + cpu->cpl);
+    leaves[features][cpu->control & C_CR4_KL] += key_locker;
+}
+
+static void cover_refused_cpuid(const struct trial *t)
+{
+    note(t->call.cpu.length == 0 && t->null_if_empty, EVENT_CPUID_NULL);
+    note(t->call.cpu.length == sizeof(struct cpu) - 1, EVENT_CPUID_407);
+    note(t->call.cpu.length == sizeof(struct cpu) + 1, EVENT_CPUID_409);
+}
+
+void cover_probe(enum probed probed, bool foretold)
+{
+    probed_exceptions[probed][foretold]++;
+}
+
+static void cover_order(enum call_kind kind, uint32_t low, uint32_t high)
+{
+    orders[low][high]++;
+    note(kind == CPUID && low == R1_MACHINE && high == R4_CPU_LENGTH, EVENT_CPUID_1_4);
+    note(kind == CPUID && low == R1_MACHINE && high == R5_CPU, EVENT_CPUID_1_5);
+    note(kind == CPUID && low == R4_CPU_LENGTH && high == R5_CPU, EVENT_CPUID_4_5);
+}
+
 static void cover_spoils(const struct trial *t)
 {
     if (t->meant == ANY_NUMBER || t->spoils[0] < 0)
         return;
     (t->spoils[1] < 0 ? spoiled_alone : spoiled_first)[t->spoils[0]]++;
     if (t->spoils[1] >= 0)
-        orders[spoils[t->spoils[0]].number][spoils[t->spoils[1]].number]++;
+        cover_order(t->call.kind, spoils[t->spoils[0]].number, spoils[t->spoils[1]].number);
 }
 
 static void note_empty(const struct trial *t)
 {
     const struct call *c = &t->call;
-    bool empty = t->machine.length == 0 || (c->kind == STEP && (!c->cpu.length || !c->memory.length || !c->random.length || !c->string.length));
+    bool empty = t->machine.length == 0 || (c->kind == STEP && (!c->cpu.length || !c->memory.length || !c->random.length || !c->string.length)) ||
+                 (c->kind == CPUID && !c->cpu.length);
     note(empty && t->null_if_empty, EVENT_NULL_POINTER);
     note(empty && !t->null_if_empty, EVENT_EMPTY_BUFFER);
 }
@@ -257,14 +321,18 @@ void cover_call(const struct trial *t, const struct run *library)
     note_empty(t);
     if (t->call.kind == STEP)
         cover_step(t, library);
+    if (t->call.kind == CPUID && library->number == R4_CPU_LENGTH)
+        cover_refused_cpuid(t);
     if (library->number)
         return;
     if (t->call.kind == POWER_ON)
         note(machine_refused(t->machine), EVENT_POWER_ON_BAD_RECORD);
     else if (t->call.kind == READ)
-        cover_read(t, *library->value);
+        cover_read(t, *library->results.value);
     else if (t->call.kind == WRITE)
         cover_write(t, before, after);
+    else if (t->call.kind == CPUID)
+        cover_leaf(t, before->features);
     else
         cover_platform(t, before);
 }
@@ -282,9 +350,9 @@ void cover_judged(const struct history *history, const struct trial *t, const st
     note(slept && encode->name == 0, EVENT_NAME_0_AGAIN);
 }
 
-static void print_pairs(const char *title, const char *const *texts, unsigned long (*pairs)[2], int count)
+static void print_pairs(const char *title, const char *first, const char *second, const char *const *texts, unsigned long (*pairs)[2], int count)
 {
-    printf("\n%-56s %10s %10s\n", title, "ZF 0", "ZF 1");
+    printf("\n%-56s %10s %10s\n", title, first, second);
     for (int i = 0; i < count; i++)
         printf("  %-54s %10lu %10lu\n", texts[i], pairs[i][0], pairs[i][1]);
 }
@@ -321,13 +389,27 @@ static void print_orders(void)
     printf("\n");
 }
 
+/* which machines were asked, by one feature and CR4.KL */
+static void print_leaves(const char *title, unsigned set)
+{
+    unsigned long pairs[6][2] = {0};
+    for (unsigned feature = 0; feature < 6; feature++)
+        for (unsigned features = 0; features <= F_ALL; features++)
+            for (int cr4_kl = 0; cr4_kl < 2; cr4_kl++)
+                pairs[feature][cr4_kl] += (features >> feature & 1) == set ? leaves[features][cr4_kl] : 0;
+    print_pairs(title, "CR4.KL 0", "CR4.KL 1", feature_texts, pairs, 6);
+}
+
 void print_coverage(void)
 {
     print_numbers();
     print_orders();
-    print_pairs("uses", use_texts, uses, USE_FORMS);
-    print_pairs("uses of handles", origin_texts, origins, ORIGINS);
-    print_pairs("uses by operand", shape_texts, shapes, SHAPES);
+    print_pairs("uses", "ZF 0", "ZF 1", use_texts, uses, USE_FORMS);
+    print_pairs("uses of handles", "ZF 0", "ZF 1", origin_texts, origins, ORIGINS);
+    print_pairs("uses by operand", "ZF 0", "ZF 1", shape_texts, shapes, SHAPES);
+    print_pairs("exceptions as the library's CPUID foretells", "none", "raised", probed_texts, probed_exceptions, PROBED_COUNT);
+    print_leaves("CPUID leaf 0x19 without the feature", 0);
+    print_leaves("CPUID leaf 0x19 with the feature", 1);
     printf("\n%-56s %10s %10s\n", "reasons of refusals", "alone", "first of 2");
     for (int i = 0; i < spoil_count; i++)
         printf("  %2u %-51s %10lu %10lu\n", spoils[i].number, spoils[i].reason, spoiled_alone[i], spoiled_first[i]);
@@ -343,9 +425,22 @@ static bool need(unsigned long count, const char *what, const char *text)
     return count != 0;
 }
 
-bool coverage_is_full(void)
+/* every combination of features, with CR4.KL off and on */
+static bool leaves_are_full(void)
 {
     bool full = true;
+    for (unsigned features = 0; features <= F_ALL; features++)
+        for (int cr4_kl = 0; cr4_kl < 2; cr4_kl++) {
+            char text[48];
+            snprintf(text, sizeof text, "features 0x%02x, CR4.KL %d", features, cr4_kl);
+            full &= need(leaves[features][cr4_kl], "CPUID leaf 0x19", text);
+        }
+    return full;
+}
+
+bool coverage_is_full(void)
+{
+    bool full = leaves_are_full();
     for (int kind = 0; kind < CALL_KINDS; kind++)
         for (unsigned number = 0; number < NUMBERS; number++) {
             char text[32];
@@ -364,6 +459,8 @@ bool coverage_is_full(void)
         full &= need(origins[i][i != HANDLE_FITTING && i != HANDLE_COUNTER_WRAPS], "handles", origin_texts[i]);
     for (int i = 0; i < SHAPES; i++)
         full &= need(shapes[i][0], "ZF 0 with operand", shape_texts[i]);
+    for (int i = 0; i < PROBED_COUNT; i++)
+        full &= need(probed_exceptions[i][0], "no", probed_texts[i]) && need(probed_exceptions[i][1], "foretold", probed_texts[i]);
     for (int i = 0; i < spoil_count; i++)
         full &= need(spoiled_alone[i], "reason", spoils[i].reason);
     for (int i = 0; i < EVENT_COUNT; i++)

@@ -9,6 +9,25 @@ void cover_call(const struct trial *t, const struct run *library);
 /* a use whose handle an earlier encode of the list gave, under a key of the same name */
 void cover_judged(const struct history *history, const struct trial *t, const struct judged *judged);
 
+/* the exceptions that CPUID foretells */
+#define PROBED_EXCEPTIONS(X)                   \
+    X(UD_LOAD, "#UD of LOADIWKEY")             \
+    X(UD_ENCODE, "#UD of encodes")             \
+    X(UD_USE, "#UD of uses of one block")      \
+    X(UD_WIDE, "#UD of wide uses")             \
+    X(GP_LOAD, "#GP of LOADIWKEY")             \
+    X(GP_ENCODE, "#GP of encodes")             \
+    X(GP_REGISTER, "#GP of backup registers")
+
+enum probed {
+#define PROBED(name, text) PROBED_##name,
+    PROBED_EXCEPTIONS(PROBED)
+#undef PROBED
+    PROBED_COUNT
+};
+
+void cover_probe(enum probed probed, bool foretold);
+
 void print_coverage(void);
 /* says on stdout what did not occur */
 bool coverage_is_full(void);

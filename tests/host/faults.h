@@ -1,6 +1,6 @@
 /* Faults planted in the model, one at a time, to show that the runner finds them: FAULT(name) is true only in a model compiled with
  * -DFAULTY=n, where n is the place of that name in the list. The last ones stand around the library's call instead, as if the library misused
- * what it was lent. tests/host/faults.sh builds and runs them all. */
+ * what it was lent, and those called drift change what its CPUID answered beside another call. tests/host/faults.sh builds and runs them all. */
 #ifndef FAULTS_H
 #define FAULTS_H
 
@@ -105,6 +105,36 @@
     X(JUNK_ONLY_PENDING, "junk is no junk where nothing is pending")                                   \
     X(WAKE_KEEPS_BACKUP, "sleep without pending keeps the backup after a bad settle")                  \
     X(RESET_KEEPS_STORE, "reset keeps backup and store")                                               \
+    /* CPUID */                                                                                        \
+    X(CPUID_BIT_22, "CPUID: KL is bit 22 of leaf 7")                                                   \
+    X(CPUID_SUBLEAF_OF_7, "CPUID: every subleaf of leaf 7 is answered")                                \
+    X(CPUID_SUBLEAF_OF_19, "CPUID: leaf 0x19 is answered for subleaf 0 alone")                         \
+    X(CPUID_LEAF_BYTE, "CPUID: the low byte of the leaf decides")                                      \
+    X(CPUID_LEAF_0, "CPUID: leaf 0 has the highest leaf")                                              \
+    X(CPUID_WITHOUT_KL, "CPUID: leaf 0x19 is answered without the KL feature")                         \
+    X(CPUID_AESKLE_CR4, "CPUID: AESKLE without CR4.KL")                                                \
+    X(CPUID_AESKLE_FIRMWARE, "CPUID: AESKLE without the firmware bit")                                 \
+    X(CPUID_AESKLE_EM, "CPUID: AESKLE is 0 under CR0.EM")                                              \
+    X(CPUID_AESKLE_OSFXSR, "CPUID: AESKLE is 0 without CR4.OSFXSR")                                    \
+    X(CPUID_WIDE_BACKUP, "CPUID: wide forms and backup registers are exchanged")                       \
+    X(CPUID_BACKUP_FIRMWARE, "CPUID: the backup registers show only with the firmware bit")            \
+    X(CPUID_NO_BACKUP_RANDOM, "CPUID: NoBackup and random source are exchanged")                       \
+    X(CPUID_EAX_3, "CPUID: no decryption is not among the restrictions")                               \
+    X(CPUID_ZEROS_KEPT, "CPUID: a leaf without bits leaves the four numbers")                          \
+    X(CPUID_IN_RECORD, "CPUID: EAX goes to the CPU record too")                                        \
+    X(CPUID_RIP, "CPUID: RIP advances")                                                                \
+    X(CPUID_CPU_BEFORE_MACHINE, "CPUID: the CPU record is tested before the machine")                  \
+    X(CPUID_5_BEFORE_4, "CPUID: the CPL is tested before the CPU record's length")                     \
+    X(CPUID_CPL_4, "CPUID: CPL 4 is taken")                                                            \
+    X(CPUID_CPL_ALONE, "CPUID: zero fields of the CPU record are not tested")                          \
+    X(CPUID_AT_CPL_0, "CPUID: CPL above 0 is refused")                                                 \
+    X(DRIFT_KL, "drift: CPUID always shows KL")                                                        \
+    X(DRIFT_AESKLE, "drift: CPUID always shows AESKLE")                                                \
+    X(DRIFT_WIDE, "drift: CPUID always shows the wide forms")                                          \
+    X(DRIFT_BACKUP, "drift: CPUID always shows the backup registers")                                  \
+    X(DRIFT_NO_BACKUP, "drift: CPUID always shows NoBackup")                                           \
+    X(DRIFT_RANDOM, "drift: CPUID always shows the random source")                                     \
+    X(DRIFT_RESTRICTIONS, "drift: CPUID never shows no decryption")                                    \
     /* the history machine */                                                                          \
     X(HISTORY_NOT_READY, "history: LOADIWKEY without random data makes a name")                        \
     X(HISTORY_COPY_NO_BACKUP, "history: a name with NoBackup gets into the backup")                    \
@@ -112,6 +142,7 @@
     X(HISTORY_SLEEP_KEEPS_NAMES, "history: sleep keeps the processors' names")                         \
     X(HISTORY_PRIVILEGE, "history: CPL 0 only allows every CPL")                                       \
     X(HISTORY_SIZE, "history: a 128 form may use a 64-byte handle")                                    \
+    X(HISTORY_CPUID, "history: CPUID is a call of the list")                                           \
     /* lent buffers */                                                                                 \
     X(MEMORY_WRITTEN, "memory is written")                                                             \
     X(RANDOM_WRITTEN, "random data is written")                                                        \
@@ -119,12 +150,15 @@
     X(REFUSED_WRITES_MACHINE, "a refused call writes the machine")                                     \
     X(REFUSED_WRITES_CPU, "a refused call writes the CPU record")                                      \
     X(REFUSED_WRITES_VALUE, "a refused call writes the value")                                         \
+    X(REFUSED_WRITES_EDX, "a refused CPUID writes EDX")                                                \
+    X(CPUID_WRITES_MACHINE, "CPUID writes the machine")                                                \
     /* seen only under valgrind */                                                                     \
     X(BEHIND_MACHINE, "a byte behind the machine is read")                                             \
     X(BEHIND_CPU, "a byte behind the CPU record is read")                                              \
     X(BEHIND_MEMORY, "a byte behind memory is read")                                                   \
     X(BEHIND_RANDOM, "a byte behind the random data is read")                                          \
-    X(BEHIND_STRING, "a byte behind the string is read")
+    X(BEHIND_STRING, "a byte behind the string is read")                                               \
+    X(BEHIND_CPUID, "a byte behind the CPU record is read by CPUID")
 
 enum fault {
     FAULT_NONE,

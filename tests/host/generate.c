@@ -4,6 +4,7 @@
 
 #include "assemble.h"
 #include "chance.h"
+#include "cpuid.h"
 #include "forge.h"
 #include "spoil.h"
 
@@ -102,9 +103,9 @@ static void choose_power_on(struct trial *t, unsigned number)
         any_bytes(t->machine_room, sizeof(struct machine));
 }
 
-/* ---- steps ---- */
+/* ---- CPU records ---- */
 
-static void choose_cpu(struct trial *t)
+static void choose_record(struct trial *t)
 {
     struct cpu *cpu = trial_cpu(t);
     any_bytes(cpu, sizeof *cpu);
@@ -115,6 +116,13 @@ static void choose_cpu(struct trial *t)
     cpu->control = C_CR4_KL | C_OSFXSR;
     memset(cpu->zeros, 0, sizeof cpu->zeros);
     t->call.cpu.length = sizeof *cpu;
+}
+
+/* ---- steps ---- */
+
+static void choose_lent(struct trial *t)
+{
+    choose_record(t);
     t->call.random.length = one_in(3) ? 0 : RANDOM_SIZE;
     any_bytes(t->random_room, RANDOM_SIZE);
     t->call.memory.length = below(200);
@@ -221,7 +229,7 @@ static void choose_use(const struct world *world, struct trial *t)
 static void choose_step(const struct world *world, struct trial *t)
 {
     t->call.kind = STEP;
-    choose_cpu(t);
+    choose_lent(t);
     unsigned choice = (unsigned)below(20);
     t->call.processor = choice < 3 ? some_processor(trial_machine(t)) : some_loaded_processor(trial_machine(t));
     if (choice < 3)
@@ -230,6 +238,38 @@ static void choose_step(const struct world *world, struct trial *t)
         choose_encode(t);
     else
         choose_use(world, t);
+    t->meant = 0;
+}
+
+/* ---- CPUID ---- */
+
+/* mostly the two that have bits; others that agree with them in some bytes, or are next to them */
+static uint32_t some_leaf(void)
+{
+    static const uint32_t others[] = {0, 6, 8, 0x18, 0x1A, 0x107, 0x119, 0x80000007, 0x40000019};
+    if (!one_in(4))
+        return one_in(3) ? LEAF_FEATURES : LEAF_KEY_LOCKER;
+    return one_in(4) ? (uint32_t)any64() : others[below(sizeof others / sizeof *others)];
+}
+
+static uint32_t some_subleaf(void)
+{
+    static const uint32_t edges[] = {0, 0, 1, UINT32_MAX};
+    return one_in(3) ? (uint32_t)any64() : edges[below(sizeof edges / sizeof *edges)];
+}
+
+/* Half of them on a copy with any features: the machines themselves seldom lack more than one. */
+static void choose_cpuid(struct trial *t)
+{
+    t->call.kind = CPUID;
+    choose_record(t);
+    trial_cpu(t)->control = (uint8_t)below(C_ALL + 1);
+    t->call.leaf = some_leaf();
+    t->call.subleaf = some_subleaf();
+    if (one_in(2)) {
+        t->carried = false;
+        trial_machine(t)->features = (uint8_t)below(F_ALL + 1);
+    }
     t->meant = 0;
 }
 
@@ -284,7 +324,9 @@ static void mutate_numbers(struct trial *t)
     t->call.code = (uint8_t)below(5);
     t->call.address = one_in(2) ? t->call.address ^ 1u << below(32) : (uint32_t)any64();
     t->call.value = one_in(2) ? below(3) : UINT64_C(1) << below(64);
-    if (t->call.kind == STEP) {
+    t->call.leaf ^= one_in(2) ? 0 : UINT32_C(1) << below(32);
+    t->call.subleaf = one_in(2) ? 0 : UINT32_C(1) << below(32);
+    if (t->call.kind == STEP || t->call.kind == CPUID) {
         cpu->control = (uint8_t)below(one_in(2) ? 16 : 32);
         cpu->cpl = (uint8_t)below(5);
         store64(cpu->registers[below(16)], interesting64());
@@ -304,8 +346,10 @@ static void mutate(struct trial *t)
 static void choose_call(const struct world *world, struct trial *t)
 {
     unsigned choice = (unsigned)below(1000);
-    if (choice < 670)
+    if (choice < 610)
         choose_step(world, t);
+    else if (choice < 670)
+        choose_cpuid(t);
     else if (choice < 840)
         choose_register(t, true);
     else if (choice < 900)
@@ -330,6 +374,13 @@ static void begin(const struct world *world, struct trial *t)
     t->carried = true;
     t->made = t->meant_string = false;
     t->spoils[0] = t->spoils[1] = -1;
+    any_bytes(t->leaf_before, sizeof t->leaf_before);
+}
+
+/* CPUID's number does not depend on the features */
+static bool needs_features(const struct trial *t)
+{
+    return t->call.kind != POWER_ON && t->call.kind != CPUID;
 }
 
 void generate(const struct world *world, struct trial *t)
@@ -346,7 +397,7 @@ void generate(const struct world *world, struct trial *t)
     choose_call(world, t);
     if (t->call.kind == POWER_ON && t->machine_number % 2 == 0)
         t->carried = false;
-    if (t->call.kind != POWER_ON && trial_machine(t)->features != F_ALL)
+    if (needs_features(t) && trial_machine(t)->features != F_ALL)
         t->meant = ANY_NUMBER;
     if (one_in(14))
         mutate(t);

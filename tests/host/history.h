@@ -1,4 +1,5 @@
-/* The scope's "The plain history machine": names instead of keys. It is fed power-on's arguments and the calls without the machine. */
+/* The scope's "The plain history machine": names instead of keys. It is fed power-on's arguments and the calls
+ * of its lists, CPUID not being one, without the machine. */
 #ifndef HISTORY_H
 #define HISTORY_H
 

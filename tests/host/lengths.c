@@ -36,6 +36,37 @@ static const struct lengths {
     {408, 1048577, 47, 1048528, 6}, /* 6 and 7 */
 };
 
+/* CPUID: what lengths, features, CPL and control byte make of a leaf and subleaf */
+static const struct identified {
+    size_t machine, cpu;
+    uint8_t features, cpl, control;
+    uint32_t leaf, subleaf, number;
+    uint32_t answer[LEAF_REGISTERS];
+} identified[] = {
+    {924, 408, 0x3F, 0, 0x03, 7, 0, 0, {0, 0, 0x800000, 0}},
+    {924, 408, 0x01, 3, 0x00, 7, 0, 0, {0, 0, 0x800000, 0}},
+    {924, 408, 0x3F, 0, 0x03, 0x19, 0, 0, {7, 0x15, 3, 0}},
+    {924, 408, 0x3F, 3, 0x0D, 0x19, 0xFFFFFFFF, 0, {7, 0x15, 3, 0}}, /* any CPL, CR0.EM, CR0.TS, no CR4.OSFXSR */
+    {924, 408, 0x3F, 0, 0x02, 0x19, 0, 0, {7, 0x14, 3, 0}},          /* no CR4.KL */
+    {924, 408, 0x3D, 0, 0x03, 0x19, 0, 0, {7, 0x14, 3, 0}},          /* a feature less each */
+    {924, 408, 0x3B, 0, 0x03, 0x19, 0, 0, {7, 0x11, 3, 0}},
+    {924, 408, 0x37, 0, 0x03, 0x19, 0, 0, {7, 0x05, 3, 0}},
+    {924, 408, 0x2F, 0, 0x03, 0x19, 0, 0, {7, 0x15, 2, 0}},
+    {924, 408, 0x1F, 0, 0x03, 0x19, 0, 0, {7, 0x15, 1, 0}},
+    {924, 408, 0x3E, 0, 0x03, 0x19, 0, 0, {0}},
+    {924, 408, 0x3E, 0, 0x03, 7, 0, 0, {0}},
+    {924, 408, 0x3F, 0, 0x03, 7, 1, 0, {0}},
+    {924, 408, 0x3F, 0, 0x03, 0, 0, 0, {0}},
+    {924, 407, 0x3F, 0, 0x03, 7, 0, 4, {0}},
+    {924, 409, 0x3F, 0, 0x03, 7, 0, 4, {0}},
+    {924, 0, 0x3F, 0, 0x03, 7, 0, 4, {0}},
+    {924, 408, 0x3F, 4, 0x03, 7, 0, 5, {0}},
+    {924, 408, 0x3F, 0, 0x13, 7, 0, 5, {0}},
+    {925, 407, 0x3F, 0, 0x03, 7, 0, 1, {0}}, /* 1 and 4 */
+    {923, 408, 0x3F, 4, 0x03, 7, 0, 1, {0}}, /* 1 and 5 */
+    {924, 409, 0x3F, 4, 0x03, 7, 0, 4, {0}}, /* 4 and 5 */
+};
+
 /* one processor with a zero IWKey, the instruction above, and nothing in memory but the handle */
 static void prepare(struct trial *t, enum call_kind kind)
 {
@@ -47,7 +78,8 @@ static void prepare(struct trial *t, enum call_kind kind)
     trial_machine(t)->features = F_ALL;
     trial_cpu(t)->control = C_CR4_KL | C_OSFXSR;
     t->machine = (struct buffer){t->machine_room, 924};
-    t->call = (struct call){.kind = kind, .count = 1, .features = F_ALL, .address = kind == READ ? BACKUP_STATUS : COPY_OUT};
+    t->call = (struct call){.kind = kind, .count = 1, .features = F_ALL, .address = kind == READ ? BACKUP_STATUS : COPY_OUT, .leaf = 0x19};
+    memset(t->leaf_before, 0xA5, sizeof t->leaf_before);
     t->call.cpu = (struct buffer){t->cpu_room, 408};
     t->call.memory = (struct buffer){t->memory_room, 0};
     t->call.random = (struct buffer){t->random_room, 0};
@@ -55,8 +87,16 @@ static void prepare(struct trial *t, enum call_kind kind)
     t->spoils[0] = t->spoils[1] = -1;
 }
 
-/* The call gets this number from the library and the model, and where it is done, the block is encrypted. */
-static bool answers(struct trial *t, uint32_t number)
+static bool leaf_differs(const struct results *results, const uint32_t *leaf)
+{
+    for (int i = 0; i < LEAF_REGISTERS; i++)
+        if (*results->leaf[i] != leaf[i])
+            return true;
+    return false;
+}
+
+/* The call gets this number from the library and the model, and where it is done, the block is encrypted, or CPUID gives the leaf, if one is named. */
+static bool answers(struct trial *t, uint32_t number, const uint32_t *leaf)
 {
     struct run library, model;
     t->meant = number;
@@ -65,6 +105,8 @@ static bool answers(struct trial *t, uint32_t number)
     const char *differs = difference(t, &library, &model);
     if (!differs && number == 0 && t->call.kind == STEP && memcmp(library.call.cpu.bytes, ZERO_ENCRYPTED, sizeof ZERO_ENCRYPTED) != 0)
         differs = "XMM0 is not the encrypted block";
+    if (!differs && number == 0 && leaf && leaf_differs(&library.results, leaf))
+        differs = "CPUID gives another leaf";
     if (differs) {
         printf("lengths: %s\n", differs);
         report(t, &library, &model);
@@ -85,7 +127,7 @@ static bool machine_lengths(struct trial *t)
             t->call.memory.length = MEMORY_LIMIT;
             store64(trial_cpu(t)->registers[RAX], MEMORY_LIMIT - sizeof ZERO_HANDLE);
             t->call.code = length == 924 ? 0 : 3;
-            good &= answers(t, length == 924 ? 0 : 1);
+            good &= answers(t, length == 924 ? 0 : 1, NULL);
         }
     return good;
 }
@@ -99,7 +141,25 @@ static bool step_lengths(struct trial *t)
         t->call.memory.length = steps[i].memory;
         t->call.random.length = steps[i].random;
         store64(trial_cpu(t)->registers[RAX], steps[i].rax);
-        good &= answers(t, steps[i].number);
+        good &= answers(t, steps[i].number, NULL);
+    }
+    return good;
+}
+
+static bool cpuid_lengths(struct trial *t)
+{
+    bool good = true;
+    for (size_t i = 0; i < sizeof identified / sizeof *identified; i++) {
+        const struct identified *wanted = &identified[i];
+        prepare(t, CPUID);
+        t->machine.length = wanted->machine;
+        trial_machine(t)->features = wanted->features;
+        t->call.cpu.length = wanted->cpu;
+        trial_cpu(t)->cpl = wanted->cpl;
+        trial_cpu(t)->control = wanted->control;
+        t->call.leaf = wanted->leaf;
+        t->call.subleaf = wanted->subleaf;
+        good &= answers(t, wanted->number, wanted->answer);
     }
     return good;
 }
@@ -113,6 +173,7 @@ bool library_meets_lengths(void)
     memcpy(trial.memory_room + MEMORY_LIMIT - sizeof ZERO_HANDLE, ZERO_HANDLE, sizeof ZERO_HANDLE);
     bool good = machine_lengths(&trial);
     good &= step_lengths(&trial);
+    good &= cpuid_lengths(&trial);
     free(trial.memory_room);
     return good;
 }

@@ -3,6 +3,7 @@
 #include <string.h>
 
 #include "aes.h"
+#include "cpuid.h"
 #include "faults.h"
 #include "handle.h"
 #include "refusals.h"
@@ -243,7 +244,22 @@ static void reset(struct machine *m)
     }
 }
 
-static void perform(struct machine *m, struct call *call, const struct instruction *instruction, uint64_t *value)
+/* The CPU record keeps its registers and RIP: the four numbers are lent apart. */
+static void identify(const struct machine *m, const struct call *call, uint32_t *const results[LEAF_REGISTERS])
+{
+    struct cpu *cpu = (struct cpu *)call->cpu.bytes;
+    uint32_t answer[LEAF_REGISTERS];
+    cpuid(m->features, cpu->control, call->leaf, call->subleaf, answer);
+    for (int i = 0; i < LEAF_REGISTERS; i++)
+        if (!FAULT(CPUID_ZEROS_KEPT) || answer[EAX] || answer[ECX])
+            *results[i] = answer[i];
+    if (FAULT(CPUID_IN_RECORD))
+        store64(cpu->registers[RAX], answer[EAX]);
+    if (FAULT(CPUID_RIP))
+        store64(cpu->rip, load64(cpu->rip) + 2);
+}
+
+static void perform(struct machine *m, struct call *call, const struct instruction *instruction, const struct results *results)
 {
     switch (call->kind) {
     case POWER_ON:
@@ -253,7 +269,7 @@ static void perform(struct machine *m, struct call *call, const struct instructi
         step(m, call, instruction);
         break;
     case READ:
-        *value = read_register(m, call);
+        *results->value = read_register(m, call);
         break;
     case WRITE:
         write_register(m, call);
@@ -264,22 +280,27 @@ static void perform(struct machine *m, struct call *call, const struct instructi
     case SLEEP:
         sleep_and_wake(m, call->code);
         break;
+    case CPUID:
+        identify(m, call, results->leaf);
+        break;
     default:
         reset(m);
     }
 }
 
-uint32_t model_call(struct buffer machine, struct call *call, uint64_t *value)
+uint32_t model_call(struct buffer machine, struct call *call, const struct results *results)
 {
     struct machine m;
     struct instruction instruction = {0};
+    if (FAULT(CPUID_CPU_BEFORE_MACHINE) && call->kind == CPUID && call->cpu.length != sizeof(struct cpu))
+        return R4_CPU_LENGTH;
     if (call->kind == POWER_ON ? power_on_refused(machine.length, call->count, call->features) : machine_refused(machine))
         return R1_MACHINE;
     memcpy(&m, machine.bytes, sizeof m);
     uint32_t refusal = call->kind == POWER_ON ? DONE : call_refusal(m.count, m.features, call, &instruction);
     if (refusal)
         return refusal;
-    perform(&m, call, &instruction, value);
+    perform(&m, call, &instruction, results);
     memcpy(machine.bytes, &m, sizeof m);
     return DONE;
 }

@@ -62,7 +62,7 @@ struct buffer {
     size_t length;
 };
 
-enum call_kind { POWER_ON, STEP, READ, WRITE, SETTLE, SLEEP, RESET, CALL_KINDS };
+enum call_kind { POWER_ON, STEP, READ, WRITE, SETTLE, SLEEP, RESET, CPUID, CALL_KINDS };
 
 /* backup registers */
 enum { COPY_STATUS = 0x990, BACKUP_STATUS = 0x991, COPY_OUT = 0xD91, COPY_IN = 0xD92 };
@@ -74,9 +74,20 @@ struct call {
     uint8_t processor;       /* step, read, write */
     uint8_t cpl;             /* read, write */
     uint32_t address;
-    uint64_t value;                             /* write */
-    uint8_t code;                               /* settle, sleep */
-    struct buffer cpu, memory, random, string; /* step */
+    uint64_t value;                       /* write */
+    uint8_t code;                         /* settle, sleep */
+    uint32_t leaf, subleaf;               /* cpuid */
+    struct buffer cpu;                    /* step, cpuid */
+    struct buffer memory, random, string; /* step */
+};
+
+/* what CPUID answers with, in the order of its places in C */
+enum { EAX, EBX, ECX, EDX, LEAF_REGISTERS };
+
+/* the numbers that a call may answer with besides that of its refusal: a read's, and CPUID's */
+struct results {
+    uint64_t *value;
+    uint32_t *leaf[LEAF_REGISTERS];
 };
 
 static inline uint64_t load64(const uint8_t bytes[8])

@@ -134,10 +134,29 @@ static uint32_t operand_refusal(uint8_t features, const struct cpu *cpu, size_t 
     return handle_refusal(cpu, memory_length, instruction);
 }
 
-static bool cpu_refused(const struct cpu *cpu)
+static bool zero_field_set(const struct cpu *cpu)
 {
     size_t zeros = sizeof cpu->zeros - (FAULT(LAST_ZERO_FREE) ? 1 : 0);
-    return cpu->cpl > 3 || (cpu->control > C_ALL && !FAULT(CONTROL_BITS_FREE)) || !all_zero(cpu->zeros, zeros);
+    return (cpu->control > C_ALL && !FAULT(CONTROL_BITS_FREE)) || !all_zero(cpu->zeros, zeros);
+}
+
+static bool cpu_refused(const struct cpu *cpu)
+{
+    return cpu->cpl > 3 || zero_field_set(cpu);
+}
+
+/* 4, 5: CPUID has no operand but the CPU record that can be wrong, and any CPL */
+static uint32_t cpuid_refusal(struct buffer record)
+{
+    struct cpu cpu;
+    uint8_t most = FAULT(CPUID_CPL_4) ? 4 : FAULT(CPUID_AT_CPL_0) ? 0 : 3;
+    size_t cpl = offsetof(struct cpu, cpl);
+    if (FAULT(CPUID_5_BEFORE_4) && record.length > cpl && record.bytes[cpl] > 3)
+        return R5_CPU;
+    if (record.length != sizeof cpu)
+        return R4_CPU_LENGTH;
+    memcpy(&cpu, record.bytes, sizeof cpu);
+    return cpu.cpl > most || (zero_field_set(&cpu) && !FAULT(CPUID_CPL_ALONE)) ? R5_CPU : DONE;
 }
 
 static bool random_refused(size_t length)
@@ -184,6 +203,8 @@ uint32_t call_refusal(uint8_t count, uint8_t features, const struct call *call, 
         return call->code > 1 ? R2_CODE : DONE;
     case SLEEP:
         return call->code > (FAULT(WAKE_CODE_3) ? 3 : 2) ? R2_CODE : DONE;
+    case CPUID:
+        return cpuid_refusal(call->cpu);
     default:
         return DONE;
     }

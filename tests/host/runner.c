@@ -13,6 +13,7 @@
 #include "faults.h"
 #include "generate.h"
 #include "lengths.h"
+#include "probe.h"
 #include "selfcheck.h"
 
 /* a shorter run may miss rare events */
@@ -36,13 +37,22 @@ static void remember_handle(const struct trial *t, const struct run *library, co
     known->iwkey = m->processors[t->call.processor].iwkey;
 }
 
-/* Demand 3, for a machine of which all calls since its power-on are known. */
-static const char *history_differs(struct history *history, const struct trial *t, const struct run *library, struct instruction *instruction)
+/* CPUID is no call of demand 3's lists */
+static bool is_listed(const struct trial *t)
 {
+    return t->call.kind != CPUID;
+}
+
+/* Demand 3, for a machine of which all calls since its power-on are known. Names are call numbers, so the history may count no other calls. */
+static const char *history_differs(struct emulated *emulated, const struct trial *t, const struct run *library, struct instruction *instruction)
+{
+    struct history *history = &emulated->history;
     const struct cpu *after = (const struct cpu *)library->call.cpu.bytes;
     struct judged judged;
-    if (history_call(history, &t->call, instruction) != library->number)
+    if ((is_listed(t) || FAULT(HISTORY_CPUID)) && history_call(history, &t->call, instruction) != library->number)
         return "history machine: which calls a refusal stops";
+    if (history->calls != emulated->calls)
+        return "history machine: how many calls the list has";
     const char *differs = history_keys_differ(history, (const struct machine *)library->machine.bytes);
     if (differs || library->number || t->call.kind != STEP || instruction->form == LOADIWKEY)
         return differs;
@@ -68,7 +78,8 @@ static const char *carry(const struct trial *t, const struct run *library)
     if (power_on)
         history_power_on(&emulated->history, t->call.count, t->call.features);
     emulated->only_calls = (emulated->only_calls && !t->made) || power_on;
-    return emulated->only_calls && !power_on ? history_differs(&emulated->history, t, library, &instruction) : NULL;
+    emulated->calls = power_on ? 0 : emulated->calls + is_listed(t);
+    return emulated->only_calls && !power_on ? history_differs(emulated, t, library, &instruction) : NULL;
 }
 
 static const char *one_call(struct run *library, struct run *model)
@@ -80,6 +91,8 @@ static const char *one_call(struct run *library, struct run *model)
     const char *differs = difference(&trial, library, model);
     if (!differs)
         cover_call(&trial, library);
+    if (!differs)
+        differs = probe_differs(&trial, library);
     if (!differs && trial.carried)
         differs = carry(&trial, library);
     if (!differs && !library->number && trial.call.kind == STEP && !decode(trial.call.string, &instruction) && instruction.form >= ENCODEKEY128)

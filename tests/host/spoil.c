@@ -189,6 +189,11 @@ static bool is_step(const struct trial *t)
     return t->call.kind == STEP;
 }
 
+static bool has_cpu(const struct trial *t)
+{
+    return is_step(t) || t->call.kind == CPUID;
+}
+
 static bool is_register_call(const struct trial *t)
 {
     return t->call.kind == READ || t->call.kind == WRITE;
@@ -202,12 +207,12 @@ static bool processor_number(struct trial *t)
 static bool cpu_length(struct trial *t)
 {
     any_bytes(t->cpu_room + sizeof(struct cpu), BUFFER_ROOM - sizeof(struct cpu));
-    return is_step(t) && any_length_but(&t->call.cpu.length, sizeof(struct cpu), BUFFER_ROOM);
+    return has_cpu(t) && any_length_but(&t->call.cpu.length, sizeof(struct cpu), BUFFER_ROOM);
 }
 
-static bool step_cpl(struct trial *t)
+static bool cpu_cpl(struct trial *t)
 {
-    return is_step(t) && (trial_cpu(t)->cpl = above(3));
+    return has_cpu(t) && (trial_cpu(t)->cpl = above(3));
 }
 
 static bool register_cpl_above_3(struct trial *t)
@@ -217,12 +222,12 @@ static bool register_cpl_above_3(struct trial *t)
 
 static bool control_bit(struct trial *t)
 {
-    return is_step(t) && (trial_cpu(t)->control |= (uint8_t)(0x10 << below(4)));
+    return has_cpu(t) && (trial_cpu(t)->control |= (uint8_t)(0x10 << below(4)));
 }
 
 static bool zero_byte(struct trial *t)
 {
-    return is_step(t) && (trial_cpu(t)->zeros[below(6)] = above(0));
+    return has_cpu(t) && (trial_cpu(t)->zeros[below(6)] = above(0));
 }
 
 static bool memory_length(struct trial *t)
@@ -626,7 +631,7 @@ const struct spoil spoils[] = {
     {R2_CODE, "wake code", wake_code},
     {R3_PROCESSOR, "processor number", processor_number},
     {R4_CPU_LENGTH, "CPU record not 408 bytes", cpu_length},
-    {R5_CPU, "CPL of the CPU record above 3", step_cpl},
+    {R5_CPU, "CPL of the CPU record above 3", cpu_cpl},
     {R5_CPU, "CPL of a register call above 3", register_cpl_above_3},
     {R5_CPU, "a control bit above 3", control_bit},
     {R5_CPU, "a zero byte of the CPU record", zero_byte},

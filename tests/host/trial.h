@@ -12,6 +12,7 @@ enum { MACHINES = 4, KNOWN_HANDLES = 128, ANY_NUMBER = 1000, MEMORY_ROOM = MEMOR
 struct emulated {
     struct machine machine;
     bool only_calls;
+    uint64_t calls; /* of the list since that power-on */
     struct history history;
 };
 
@@ -79,6 +80,7 @@ struct trial {
     bool null_if_empty; /* buffers of no bytes are null pointers */
     struct buffer machine;
     struct call call;
+    uint32_t leaf_before[LEAF_REGISTERS]; /* what the places lent for CPUID's numbers hold */
     uint32_t meant; /* the number that the generator means, or ANY_NUMBER */
     int spoils[2];  /* places in the table of spoils, -1 for none */
     bool meant_string; /* the string is that of form, as assembled */

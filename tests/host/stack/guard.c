@@ -35,26 +35,31 @@ uint8_t *small_stack_top;
             "    ret\n"                                \
             ".size small_" #name ", . - small_" #name "\n")
 
-/* arguments 7 to 11, and 8 bytes that keep the stack aligned */
-#define FIVE_ON_STACK          \
-    "    sub $8, %rsp\n"       \
-    "    pushq 48(%rbp)\n"     \
+/* arguments 7 to 10 */
+#define FOUR_ON_STACK          \
     "    pushq 40(%rbp)\n"     \
     "    pushq 32(%rbp)\n"     \
     "    pushq 24(%rbp)\n"     \
     "    pushq 16(%rbp)\n"
 
+/* arguments 7 to 11, and 8 bytes that keep the stack aligned */
+#define FIVE_ON_STACK          \
+    "    sub $8, %rsp\n"       \
+    "    pushq 48(%rbp)\n"     \
+    FOUR_ON_STACK
+
 ON_SMALL_STACK(power_on, "");
 ON_SMALL_STACK(step, FIVE_ON_STACK);
+ON_SMALL_STACK(cpuid, FOUR_ON_STACK);
 ON_SMALL_STACK(read, "");
 ON_SMALL_STACK(write, "");
 ON_SMALL_STACK(settle, "");
 ON_SMALL_STACK(sleep, "");
 ON_SMALL_STACK(reset, "");
 
-const struct entries on_normal_stack = {keylocker_power_on, keylocker_step,   keylocker_read, keylocker_write,
-                                        keylocker_settle,   keylocker_sleep, keylocker_reset};
-const struct entries on_small_stack = {small_power_on, small_step, small_read, small_write, small_settle, small_sleep, small_reset};
+const struct entries on_normal_stack = {keylocker_power_on, keylocker_step,   keylocker_cpuid, keylocker_read,
+                                        keylocker_write,    keylocker_settle, keylocker_sleep, keylocker_reset};
+const struct entries on_small_stack = {small_power_on, small_step, small_cpuid, small_read, small_write, small_settle, small_sleep, small_reset};
 
 /* The library keeps nothing between calls, so a call can be left in the middle. */
 static void on_fault(int number, siginfo_t *info, void *context)

@@ -76,6 +76,11 @@ static void with_pending(struct lent *lent)
 const struct kind kinds[] = {
     {"power-on", POWER_ON, COUNT, NULL, 0, false, true},
     {"power-on, refused", POWER_ON, COUNT + 1, NULL, KEYLOCKER_BAD_MACHINE, false, false},
+    {"CPUID leaf 7", CPUID, 7, NULL, 0, false, false},
+    {"CPUID leaf 0x19", CPUID, 0x19, at_cpl_3, 0, false, false},
+    {"CPUID, another leaf", CPUID, 0, NULL, 0, false, false},
+    {"CPUID, machine refused", CPUID, 0x19, with_bad_machine, KEYLOCKER_BAD_MACHINE, false, false},
+    {"CPUID, CPU record refused", CPUID, 0x19, with_bad_cpu, KEYLOCKER_BAD_CPU, false, false},
     {"read 0x990", READ, KEYLOCKER_COPY_STATUS, NULL, 0, false, false},
     {"read 0x991", READ, KEYLOCKER_IWKEYBACKUP_STATUS, NULL, 0, false, false},
     {"read, refused", READ, KEYLOCKER_COPY_LOCAL_TO_PLATFORM, NULL, KEYLOCKER_GP, false, false},
@@ -130,6 +135,12 @@ static uint32_t step(const struct entries *entries, struct lent *lent)
                          lent->random_length, lent->string, lent->string_length);
 }
 
+static uint32_t cpuid(const struct entries *entries, uint32_t leaf, struct lent *lent)
+{
+    return entries->cpuid(lent->machine, sizeof lent->machine, lent->cpu, sizeof lent->cpu, leaf, 0, &lent->leaf[0], &lent->leaf[1], &lent->leaf[2],
+                          &lent->leaf[3]);
+}
+
 static uint32_t answer(const struct kind *kind, const struct entries *entries, struct lent *lent)
 {
     size_t length = sizeof lent->machine;
@@ -138,6 +149,8 @@ static uint32_t answer(const struct kind *kind, const struct entries *entries, s
         return entries->power_on(lent->machine, length, (uint8_t)kind->number, KEYLOCKER_FEATURE_ALL);
     case STEP:
         return step(entries, lent);
+    case CPUID:
+        return cpuid(entries, kind->number, lent);
     case READ:
         return entries->read(lent->machine, length, PROCESSOR, 0, kind->number, &lent->value);
     case WRITE:
@@ -182,6 +195,7 @@ bool prepare(const struct kind *kind, struct lent *lent)
 {
     memset(lent, 0, sizeof *lent);
     memset(lent->random, 0x5A, sizeof lent->random);
+    memset(lent->leaf, 0x5A, sizeof lent->leaf);
     lent->random_length = sizeof lent->random;
     put_registers(lent);
     put_string(lent, LOAD);
@@ -202,11 +216,16 @@ bool prepare(const struct kind *kind, struct lent *lent)
 
 const char *not_as_meant(const struct kind *kind, const struct lent *before, const struct lent *after)
 {
+    bool identifies = kind->call == CPUID && !kind->answer;
     if (after->answer != kind->answer)
         return "another answer than meant";
     if ((memcmp(before->machine, after->machine, sizeof after->machine) != 0) != kind->writes)
         return kind->writes ? "the machine is as it was" : "the machine was written";
     if (kind->call == STEP && !kind->answer && ((after->cpu[KEYLOCKER_CPU_RFLAGS] & KEYLOCKER_RFLAGS_ZF) != 0) != kind->fails)
         return "another ZF than meant";
+    if (kind->call == CPUID && memcmp(before->cpu, after->cpu, sizeof after->cpu) != 0)
+        return "CPUID wrote the CPU record";
+    if ((memcmp(before->leaf, after->leaf, sizeof after->leaf) != 0) != identifies)
+        return identifies ? "CPUID's numbers are as they were" : "CPUID's numbers were written";
     return NULL;
 }

@@ -11,15 +11,16 @@ struct lent {
     uint8_t random[KEYLOCKER_RANDOM_SIZE], string[5];
     size_t random_length, string_length;
     uint64_t value;
+    uint32_t leaf[4]; /* CPUID's EAX, EBX, ECX, EDX */
     uint32_t answer;
 };
 
-enum call { POWER_ON, STEP, READ, WRITE, SETTLE, SLEEP, RESET };
+enum call { POWER_ON, STEP, CPUID, READ, WRITE, SETTLE, SLEEP, RESET };
 
 struct kind {
     const char *name;
     enum call call;
-    uint32_t number; /* count, register or code; of a step opcode and ModRM behind F3 0F 38 */
+    uint32_t number; /* count, register, leaf or code; of a step opcode and ModRM behind F3 0F 38 */
     void (*spoil)(struct lent *lent); /* or none */
     uint32_t answer;
     bool fails;  /* ZF after a step that is done */

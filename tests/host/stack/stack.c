@@ -39,8 +39,9 @@ static size_t least_stack(struct attempt *attempt)
 
 static bool same(const struct lent *a, const struct lent *b)
 {
-    return a->answer == b->answer && a->value == b->value && memcmp(a->machine, b->machine, sizeof a->machine) == 0 &&
-           memcmp(a->cpu, b->cpu, sizeof a->cpu) == 0 && memcmp(a->memory, b->memory, sizeof a->memory) == 0 &&
+    return a->answer == b->answer && a->value == b->value && memcmp(a->leaf, b->leaf, sizeof a->leaf) == 0 &&
+           memcmp(a->machine, b->machine, sizeof a->machine) == 0 && memcmp(a->cpu, b->cpu, sizeof a->cpu) == 0 &&
+           memcmp(a->memory, b->memory, sizeof a->memory) == 0 &&
            memcmp(a->random, b->random, sizeof a->random) == 0 && memcmp(a->string, b->string, sizeof a->string) == 0;
 }
 
