@@ -175,7 +175,7 @@ pub fn control(cpu: &[u8]) -> u8
     cpu[CONTROL]
 }
 
-pub fn zero_field_set(cpu: &[u8]) -> bool
+fn zero_field_set(cpu: &[u8]) -> bool
     requires { ⌜ length (now cpu) ≡ cpuRecord.cpuSize ⌝ }
     ensures { λ r. ⌜ r ≡ cpuRecord.zeroFieldSet (now (cpu .entry)) ⌝ }
 {
@@ -184,4 +184,12 @@ pub fn zero_field_set(cpu: &[u8]) -> bool
             & ((cpu[ZEROS + 1] == 0)
                 & ((cpu[ZEROS + 2] == 0)
                     & ((cpu[ZEROS + 3] == 0) & ((cpu[ZEROS + 4] == 0) & (cpu[ZEROS + 5] == 0))))))
+}
+
+// Refusal 5 of a record.
+pub fn bad_record(cpu: &[u8]) -> bool
+    requires { ⌜ length (now cpu) ≡ cpuRecord.cpuSize ⌝ }
+    ensures { λ r. ⌜ r ≡ cpuRecord.badRecord (now (cpu .entry)) ⌝ }
+{
+    (3 < cpl(cpu)) | zero_field_set(cpu)
 }

@@ -1,15 +1,15 @@
 -- The ways that the call goes: refused, or answered.
 -- Assumes nothing.
 use mathlib.Core.Path.{_≡_, _∙_, refl, sym, ap}
-use mathlib.Core.Bool.{Bool, true, false, cond, not, _||_}
+use mathlib.Core.Bool.{Bool, true, false, cond, not}
 use mathlib.Core.List.{List}
 use Prim.Native.Nat.{ℕ}
 use native.Mathlib.Nat.{suc-ne-zero}
-use lib.Dec.{eqb, ltb}
+use lib.Dec.{eqb}
 use lib.ListN.{length}
 use borrow.Author.Tests.{eq-eqb, ne-eqb, eqb-true}
 use Rattle.bits.proofs.Choice.{cond-on, cond-off}
-use Rattle.model.specs.Cpu.{cpuSize, cpl, control, zeroFieldSet}
+use Rattle.model.specs.Cpu.{cpuSize, control, badRecord}
 use Rattle.model.specs.Validity.{valid}
 use Rattle.model.specs.Layout.{machineSize, machineAt}
 use Rattle.model.specs.declared.Machine.{Machine}
@@ -22,7 +22,7 @@ identified n l = record { number = n; registers = l }
 
 -- 4 and 5
 abbrev pub recordRefusal : List ℕ → ℕ
-recordRefusal cpu = cond (not (eqb (length cpu) cpuSize)) 4 (cond (ltb 3 (cpl cpu) || zeroFieldSet cpu) 5 0)
+recordRefusal cpu = cond (not (eqb (length cpu) cpuSize)) 4 (cond (badRecord cpu) 5 0)
 
 -- past 4
 pub record-length : (cpu : List ℕ) → recordRefusal cpu ≡ 0 → length cpu ≡ cpuSize

@@ -1,11 +1,11 @@
 -- Change request (i): "a call over machine, CPU record, leaf and subleaf that alters nothing". It is no call of demand 3's lists, and no instruction string.
 -- Assumes nothing.
-use mathlib.Core.Bool.{cond, not, _||_}
+use mathlib.Core.Bool.{cond, not}
 use mathlib.Core.List.{List, [], _∷_}
 use Prim.Native.Nat.{ℕ}
-use lib.Dec.{eqb, ltb}
+use lib.Dec.{eqb}
 use lib.ListN.{length}
-use Rattle.model.specs.Cpu.{cpuSize, cpl, control, zeroFieldSet}
+use Rattle.model.specs.Cpu.{cpuSize, control, badRecord}
 use Rattle.model.specs.Validity.{valid}
 use Rattle.model.specs.Refusals.{test, first}
 use Rattle.model.specs.Layout.{machineSize, machineAt}
@@ -25,7 +25,7 @@ refusal m c =
     first
     (test 1 (not (valid m))
     ∷ test 4 (not (eqb (length (c .cpu)) cpuSize))
-    ∷ test 5 (ltb 3 (cpl (c .cpu)) || zeroFieldSet (c .cpu))
+    ∷ test 5 (badRecord (c .cpu))
     ∷ [])
 
 -- 0 or the refusal's number, and the four registers

@@ -3,7 +3,7 @@
 use mathlib.Core.Bool.{Bool, not, _||_}
 use mathlib.Core.List.{List, [], _∷_}
 use Prim.Native.Nat.{ℕ, _+_, _*_, _^_, _/_, _%_}
-use lib.Dec.{leb}
+use lib.Dec.{leb, ltb}
 use lib.ListN.{getD}
 use lib.Seq.{sets}
 use Rattle.bits.specs.Words.{leBytes, leValue}
@@ -83,6 +83,10 @@ cr0Ts control = bit 3 control
 -- "a zero field of the CPU record not zero": control bits 4 to 7, or a byte from 402 on
 abbrev pub zeroFieldSet : List ℕ → Bool
 zeroFieldSet cpu = leb 16 (control cpu) || not (allZero (part 6 zerosAt cpu))
+
+-- "CPL above 3, or a zero field of the CPU record not zero": test 5 of a record
+abbrev pub badRecord : List ℕ → Bool
+badRecord cpu = ltb 3 (cpl cpu) || zeroFieldSet cpu
 
 -- "ZF 6": the flag as 0 or 1
 abbrev pub zf : List ℕ → ℕ

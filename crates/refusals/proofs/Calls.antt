@@ -12,10 +12,10 @@ use Rattle.isa.specs.declared.Decoded.{Decoded}
 use Rattle.isa.specs.declared.Decoded.the-variants as decoded
 use Rattle.isa.specs.declared.Instruction.{Instruction}
 use Rattle.isa.specs.declared.Instruction.the-variants as instruction
-use Rattle.model.specs.Cpu.{cpuSize, control}
+use Rattle.model.specs.Cpu.{cpuSize, control, badRecord}
 use Rattle.model.specs.Calls.{ReadCall, WriteCall, read, write}
 use Rattle.model.specs.Refusals.{View, first, Asked, ofHandle, memoryLimit, randomLength, needsFirmware, needsWide, invalidOpcode, noMath, canonicalFault, instructionFault, outside, readFault, writeFault, tests, stepRefusal, refusal}
-use Rattle.refusals.specs.Parts.{within, badRecord}
+use Rattle.refusals.specs.Parts.{within}
 use Rattle.refusals.proofs.Parts.{operandTests, instructionTests, recordTests}
 use Rattle.refusals.proofs.Ways.{met, passed}
 

@@ -8,10 +8,9 @@ use Rattle.fips197.specs.declared.KeySize.{KeySize}
 use Rattle.isa.specs.declared.Address.{Address}
 use Rattle.isa.specs.declared.Instruction.{Instruction}
 use Rattle.isa.specs.declared.Instruction.the-variants as instruction
-use Rattle.model.specs.Cpu.{register, control}
+use Rattle.model.specs.Cpu.{register, control, badRecord}
 use Rattle.model.specs.Forms.{registerOf, handleAddress}
 use Rattle.model.specs.Refusals.{Test, test, memoryLimit, randomLength, needsFirmware, needsWide, invalidOpcode, noMath, canonicalFault, outside, loadFault, encodeFault}
-use Rattle.refusals.specs.Parts.{badRecord}
 
 -- 12 to 14 for a handle at an address
 abbrev pub handleTests : ℕ → Address → KeySize → List Test

@@ -13,9 +13,9 @@ use Rattle.isa.specs.declared.Address.{Address}
 use Rattle.isa.specs.declared.Instruction.{Instruction}
 use Rattle.isa.specs.declared.Segment.{Segment}
 use Rattle.isa.specs.declared.Segment.the-variants.{Data, Stack}
-use Rattle.model.specs.Cpu.{control}
+use Rattle.model.specs.Cpu.{control, badRecord}
 use Rattle.model.specs.Refusals.{first, memoryLimit, randomLength, needsFirmware, needsWide, invalidOpcode, noMath, inSegment}
-use Rattle.refusals.specs.Parts.{badRecord, tested}
+use Rattle.refusals.specs.Parts.{tested}
 use Rattle.refusals.proofs.Parts.{handleTests, operandTests, instructionTests, recordTests}
 
 -- a test that holds, and one that does not

@@ -1,13 +1,12 @@
 -- What testing a step gives: a run of the model's list of tests, and where a use loads its handle from.
 -- Assumes nothing.
-use mathlib.Core.Bool.{Bool, cond, _||_}
+use mathlib.Core.Bool.{cond}
 use mathlib.Core.List.{List}
 use mathlib.Core.Option.{Option, none, some}
 use Prim.Native.Nat.{ℕ}
-use lib.Dec.{eqb, ltb}
+use lib.Dec.{eqb}
 use Rattle.isa.specs.declared.Decoded.{Decoded}
 use Rattle.isa.specs.declared.Decoded.the-variants as decoded
-use Rattle.model.specs.Cpu.{cpl, zeroFieldSet}
 use Rattle.model.specs.Forms.{Form, formOf, handleAddress}
 use Rattle.model.specs.Refusals.{View, first, between, Asked, tests, ofStep}
 use Rattle.refusals.specs.declared.Tested.{Tested}
@@ -15,10 +14,6 @@ use Rattle.refusals.specs.declared.Tested.{Tested}
 -- the number of the first of the tests a to b of a step that holds, or 0
 abbrev pub within : ℕ → ℕ → View → Asked → ℕ
 within a b v q = first (between a b (tests v (ofStep q)))
-
--- test 5 of a CPU record: "CPL above 3, or a zero field of the CPU record not zero"
-abbrev pub badRecord : List ℕ → Bool
-badRecord cpu = ltb 3 (cpl cpu) || zeroFieldSet cpu
 
 -- where an instruction of so many bytes loads its handle from; 0 if it loads none
 abbrev pub loadedFrom : List ℕ → ℕ → Option Form → ℕ

@@ -6,11 +6,11 @@ ghost use lib.Dec.{eqb, leb, ltb};
 ghost use lib.ListN.{length};
 ghost use Rattle.isa.specs.declared.Decoded as decoded;
 ghost use Rattle.isa.specs.declared.Decoded.the-variants.{Found};
-ghost use Rattle.model.specs.Cpu.{cpuSize};
+ghost use Rattle.model.specs.Cpu.{cpuSize, badRecord};
 ghost use Rattle.model.specs.Forms.{handleAddress, formOf};
 ghost use Rattle.model.specs.Calls.{read, write};
 ghost use Rattle.model.specs.Refusals.{View, stepRefusal, refusal, needsFirmware, needsWide, invalidOpcode, noMath, loadFault, encodeFault, inSegment, canonicalFault, outside, noRegisters};
-ghost use Rattle.refusals.specs.Parts.{within, badRecord, tested, loadedFrom, handleLinear};
+ghost use Rattle.refusals.specs.Parts.{within, tested, loadedFrom, handleLinear};
 use address::effective_address;
 use address::some_not_canonical;
 use address::some_outside;
@@ -18,12 +18,12 @@ use cpu::CR0_EM;
 use cpu::CR0_TS;
 use cpu::CR4_KL;
 use cpu::CR4_OSFXSR;
+use cpu::bad_record;
 use cpu::bit;
 use cpu::control;
 use cpu::cpl;
 use cpu::register;
 use cpu::register_of;
-use cpu::zero_field_set;
 use fips197::KeySize;
 use isa::Address;
 use isa::Decoded;
@@ -221,14 +221,6 @@ fn instruction_refusal(
 
 // ---- a CPU record
 
-// 5, for a record of the right length.
-fn record_fault(cpu: &[u8]) -> bool
-    requires { ⌜ length (now cpu) ≡ cpuSize ⌝ }
-    ensures { λ r. ⌜ r ≡ badRecord (now (cpu .entry)) ⌝ }
-{
-    (3 < cpl(cpu)) | zero_field_set(cpu)
-}
-
 // 4 and 5: all that CPUID asks of its CPU record.
 pub fn cpuid_refusal(cpu: &[u8]) -> u8
     ensures { λ r. ⌜ r ≡ cond (not (eqb (length (now (cpu .entry))) cpuSize)) 4 (cond (badRecord (now (cpu .entry))) 5 0) ⌝ }
@@ -236,7 +228,7 @@ pub fn cpuid_refusal(cpu: &[u8]) -> u8
     if cpu.len() != CPU_SIZE {
         return 4;
     }
-    if record_fault(cpu) {
+    if bad_record(cpu) {
         return 5;
     }
     0
@@ -249,7 +241,7 @@ fn record_refusal(cpu: &[u8], memory: usize, random: usize) -> u8
     requires { ⌜ length (now cpu) ≡ cpuSize ⌝ }
     ensures { λ r. ⌜ ((v : View) (processor : ℕ) (d : decoded.Decoded) → r ≡ within 5 7 v (record { processor = processor; cpu = now (cpu .entry); memory = memory; random = random; decoded = d })) ⌝ }
 {
-    if record_fault(cpu) {
+    if bad_record(cpu) {
         return 5;
     }
     if MEMORY_LIMIT < memory {
