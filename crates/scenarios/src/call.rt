@@ -5,43 +5,36 @@
 ghost use mathlib.Core.Path.{_≡_};
 ghost use Prim.Native.Nat.{_≤_};
 ghost use lib.ListN.{length};
-use crate::print::print;
-use crate::print::print_answer;
-use crate::print::print_changes;
-use crate::print::print_decimal;
-use crate::print::print_word;
-use crate::print::word;
-use cpuid_model::Leaf;
 use layout::read_machine;
-use layout_write::write_machine;
 use lent::Stepped;
 use lent::step_through;
 use line::bytes;
 use line::find;
 use machine::Outcome;
 use model::Machine;
+use report::print;
+use report::print_changes;
+use report::print_decimal;
+use report::print_kind;
+use report::print_machine;
+use report::print_registers;
+use report::print_word;
+use report::word;
+use step::Answer;
 
-fn print_kind(kind: u8) {
-    match kind {
-        0 => print(b" power-on"),
-        1 => print(b" read"),
-        2 => print(b" write"),
-        3 => print(b" settle"),
-        4 => print(b" sleep"),
-        5 => print(b" reset"),
-        6 => print(b" step"),
-        7 => print(b" lend"),
-        _ => print(b" cpuid"),
+// 0, or the number of the refusal; answers whether there was none.
+fn print_answer(answer: Answer) -> bool {
+    print(b" ");
+    match answer {
+        Answer::Done => {
+            print_decimal(0);
+            true
+        }
+        Answer::Refused(n) => {
+            print_decimal(n as u64);
+            false
+        }
     }
-}
-
-fn print_machine(before: Machine, after: Machine) {
-    let mut old = [0u8; 924];
-    let mut new = [0u8; 924];
-    write_machine(&mut old, before);
-    write_machine(&mut new, after);
-    print_changes(b" machine", &old, &new);
-    print(b"\n");
 }
 
 // All calls but step and CPUID.
@@ -111,17 +104,6 @@ fn step(m: Machine, a: &[u8], b: &mut [u8]) -> Machine
     }
     print_machine(m, after);
     after
-}
-
-fn print_registers(r: Leaf) {
-    print(b" eax ");
-    print_word(r.eax);
-    print(b" ebx ");
-    print_word(r.ebx);
-    print(b" ecx ");
-    print_word(r.ecx);
-    print(b" edx ");
-    print_word(r.edx);
 }
 
 fn cpuid(m: Machine, a: &[u8])

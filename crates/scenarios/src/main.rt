@@ -1,6 +1,5 @@
 // Calls of the emulated machine through the proved code, by value: each line of standard input is a call, and is answered by one line.
 mod call;
-mod print;
 
 ghost use mathlib.Core.Path.{_≡_};
 ghost use lib.ListN.{length};

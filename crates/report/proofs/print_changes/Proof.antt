@@ -2,8 +2,8 @@
 -- Assumes nothing.
 use Prim.Native.Nat.{_≤_, _-_}
 use borrow.Author.Needs.{needs}
-use Rattle.scenarios.proofs.print.print_changes.Statement.{statement}
-use Rattle.scenarios.proofs.print.print_changes.Tie as tie
+use Rattle.report.proofs.print_changes.Statement.{statement}
+use Rattle.report.proofs.print_changes.Tie as tie
 
 abbrev Inv-loop : tie.InvT-loop
 Inv-loop what old new n after₀ i₀ after i = i ≤ n

@@ -1,6 +1,8 @@
-// What a line of standard output is put together from.
+// What a line of the program `scenarios` is put together from.
+use cpuid_model::Leaf;
+use layout_write::write_machine;
 use libc::STDOUT_FILENO;
-use step::Answer;
+use model::Machine;
 
 pub fn print(text: &[u8]) {
     io::write_all(STDOUT_FILENO, text);
@@ -57,17 +59,37 @@ pub fn print_changes(what: &[u8], old: &[u8], new: &[u8]) {
     }
 }
 
-// 0, or the number of the refusal; answers whether there was none.
-pub fn print_answer(answer: Answer) -> bool {
-    print(b" ");
-    match answer {
-        Answer::Done => {
-            print_decimal(0);
-            true
-        }
-        Answer::Refused(n) => {
-            print_decimal(n as u64);
-            false
-        }
+// The kinds of calls, by their numbers.
+pub fn print_kind(kind: u8) {
+    match kind {
+        0 => print(b" power-on"),
+        1 => print(b" read"),
+        2 => print(b" write"),
+        3 => print(b" settle"),
+        4 => print(b" sleep"),
+        5 => print(b" reset"),
+        6 => print(b" step"),
+        7 => print(b" lend"),
+        _ => print(b" cpuid"),
     }
+}
+
+pub fn print_machine(before: Machine, after: Machine) {
+    let mut old = [0u8; 924];
+    let mut new = [0u8; 924];
+    write_machine(&mut old, before);
+    write_machine(&mut new, after);
+    print_changes(b" machine", &old, &new);
+    print(b"\n");
+}
+
+pub fn print_registers(r: Leaf) {
+    print(b" eax ");
+    print_word(r.eax);
+    print(b" ebx ");
+    print_word(r.ebx);
+    print(b" ecx ");
+    print_word(r.ecx);
+    print(b" edx ");
+    print_word(r.edx);
 }
