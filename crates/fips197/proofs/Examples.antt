@@ -1,4 +1,4 @@
--- FIPS 197 appendix C.1 and C.3: the definitions give the document's example vectors.
+-- FIPS 197 appendix C.1: the definitions give the document's example vectors. C.3 is in `aes256_examples`.
 -- Assumes nothing.
 use mathlib.Core.Path.{_≡_}
 use mathlib.Core.List.{List, [], _∷_}
@@ -31,16 +31,3 @@ ciphertext-128 = 0x69 ∷ 0xc4 ∷ 0xe0 ∷ 0xd8 ∷ 0x6a ∷ 0x7b ∷ 0x04 ∷ 
 pub encrypt-128 : encrypt 4 key-128 plaintext ≡ ciphertext-128
 unfolding computed
 encrypt-128 = alike-eq (computed 4 key-128 plaintext) ciphertext-128 tt
-
--- C.3: AES-256
-abbrev pub key-256 : List ℕ
-key-256 =
-    0x00 ∷ 0x01 ∷ 0x02 ∷ 0x03 ∷ 0x04 ∷ 0x05 ∷ 0x06 ∷ 0x07 ∷ 0x08 ∷ 0x09 ∷ 0x0a ∷ 0x0b ∷ 0x0c ∷ 0x0d ∷ 0x0e ∷ 0x0f
-    ∷ 0x10 ∷ 0x11 ∷ 0x12 ∷ 0x13 ∷ 0x14 ∷ 0x15 ∷ 0x16 ∷ 0x17 ∷ 0x18 ∷ 0x19 ∷ 0x1a ∷ 0x1b ∷ 0x1c ∷ 0x1d ∷ 0x1e ∷ 0x1f ∷ []
-
-abbrev pub ciphertext-256 : List ℕ
-ciphertext-256 = 0x8e ∷ 0xa2 ∷ 0xb7 ∷ 0xca ∷ 0x51 ∷ 0x67 ∷ 0x45 ∷ 0xbf ∷ 0xea ∷ 0xfc ∷ 0x49 ∷ 0x90 ∷ 0x4b ∷ 0x49 ∷ 0x60 ∷ 0x89 ∷ []
-
-pub encrypt-256 : encrypt 8 key-256 plaintext ≡ ciphertext-256
-unfolding computed
-encrypt-256 = alike-eq (computed 8 key-256 plaintext) ciphertext-256 tt

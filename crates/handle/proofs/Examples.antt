@@ -6,7 +6,7 @@ use Prim.Native.Nat.{ℕ}
 use lib.ListN.{replicate}
 use Rattle.bits.specs.Bytes.{xorBytes}
 use Rattle.fips197.specs.Aes.{encrypt}
-use Rattle.zero_key.proofs.Encryptions.{first, of-zero, of-first}
+use Rattle.aes256_examples.proofs.Encryptions.{first, of-zero, of-first}
 use Rattle.handle.specs.Format.{handle, aad}
 use Rattle.handle.specs.Wrap.{clearTop, setTop, tag, counterBlock, keystream, masked, wrapKey}
 use Rattle.handle.proofs.Integrity.{hashed-zero}
