@@ -1,7 +1,7 @@
 // The CPU record: what stands in its 408 bytes, read and written in place. Whoever lends a record has seen to its length (refusal 4).
 ghost use mathlib.Core.Path.{_≡_};
 ghost use mathlib.Core.Bool.{cond};
-ghost use Prim.Native.Nat.{_+_, _≤_, _<_};
+ghost use Prim.Native.Nat.{_+_, _%_, _≤_};
 ghost use lib.ListN.{length};
 ghost use lib.Seq.{sets};
 ghost use Rattle.bits.specs.Words.{leBytes, leValue};
@@ -39,12 +39,11 @@ pub const CR0_EM: u8 = 2;
 
 pub const CR0_TS: u8 = 3;
 
-// A bit of a byte, by its number.
+// A bit of a byte, by its number, which has three bits.
 pub fn bit(i: u8, x: u8) -> bool
-    requires { ⌜ i < 8 ⌝ }
-    ensures { λ r. ⌜ r ≡ numbers.bit i x ⌝ }
+    ensures { λ r. ⌜ r ≡ numbers.bit (i % 8) x ⌝ }
 {
-    (x >> i) % 2 == 1
+    (x >> (i % 8)) % 2 == 1
 }
 
 // ---- numbers of eight bytes

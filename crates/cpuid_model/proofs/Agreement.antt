@@ -48,7 +48,7 @@ module _ (features control n : ℕ) where
   abbrev k : Bool
   k = keyLocker features
 
-  kl-is : intel.kl features control n ≡ k
+  kl-is : intel.klBit features control n ≡ k
   unfolding cpuid
   kl-is = go k
     where
@@ -143,12 +143,6 @@ pub refused-as-a-step : (m : Machine) → valid m ≡ true → (v : View) (a : A
 unfolding tests
 refused-as-a-step m h v a leaf subleaf = cond-off (ap not h) _ _
 
--- the order: 1 before 4, and 4 before 5; a CPU record of 409 bytes whose CPL is 4
-abbrev long : List ℕ
-long = replicate 409 4
-
-pub order-1-4 : (m : Machine) → valid m ≡ false → refusal m (record { cpu = long; leaf = 7; subleaf = 0 }) ≡ 1
-order-1-4 m h = ap (λ (b : Bool). cond (not b) 1 4) h
-
-pub order-4-5 : (m : Machine) → valid m ≡ true → refusal m (record { cpu = long; leaf = 7; subleaf = 0 }) ≡ 4
-order-4-5 m h = ap (λ (b : Bool). cond (not b) 1 4) h
+-- the order, 1, 4, 5: a CPU record of 409 bytes whose CPL is 4
+pub order : (m : Machine) → refusal m (record { cpu = replicate 409 4; leaf = 7; subleaf = 0 }) ≡ cond (not (valid m)) 1 4
+order m = refl

@@ -41,7 +41,7 @@ identify m c =
       registers = cond (eqb (refusal m c) 0) (cpuid (m .features) (control (c .cpu)) (c .leaf) (c .subleaf)) zeroLeaf;
     }
 
--- for C: "Machine not 924 bytes (C form)" gives 1, and where it is refused the four registers that are lent stay
+-- the scope, "Turned back" 1, for C: "Machine not 924 bytes (C form)"; and where it is refused the four registers that are lent stay
 abbrev pub identifyAt : List ℕ → CpuidCall → Identified
 identifyAt block c = cond (eqb (length block) machineSize) (identify (machineAt block) c) (record { number = 1; registers = zeroLeaf })
 

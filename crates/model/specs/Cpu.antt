@@ -84,7 +84,7 @@ cr0Ts control = bit 3 control
 abbrev pub zeroFieldSet : List ℕ → Bool
 zeroFieldSet cpu = leb 16 (control cpu) || not (allZero (part 6 zerosAt cpu))
 
--- "CPL above 3, or a zero field of the CPU record not zero": test 5 of a record
+-- the scope, "Turned back" 5, of a record: "CPL above 3, or a zero field of the CPU record not zero."
 abbrev pub badRecord : List ℕ → Bool
 badRecord cpu = ltb 3 (cpl cpu) || zeroFieldSet cpu
 
