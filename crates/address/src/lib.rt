@@ -1,6 +1,6 @@
 // Addresses of handles: where a memory place is, and whether every byte of a handle there can be loaded.
 ghost use mathlib.Core.Path.{_≡_};
-ghost use Prim.Native.Nat.{_*_, _^_, _%_};
+ghost use Prim.Native.Nat.{_*_, _^_, _%_, _<_};
 ghost use lib.ListN.{length};
 ghost use Rattle.isa.specs.Address as isa;
 ghost use Rattle.isa.specs.Ranges.{handleLength, someNotCanonical, someOutside};
@@ -10,6 +10,7 @@ use cpu::register;
 use cpu::rip;
 use fips197::KeySize;
 use isa::Address;
+use isa::AddressSize;
 use isa::Base;
 use isa::Index;
 use isa::MemoryPlace;
@@ -57,18 +58,31 @@ fn segment_of(base: Base) -> Segment
     }
 }
 
+// As many bits of an address as the address size has.
+fn narrowed(a: u64, size: AddressSize) -> u64
+    ensures { λ r. ⌜ r ≡ a % 2 ^ isa.addressBits size ⌝ }
+{
+    match size {
+        AddressSize::Bits64 => a,
+        AddressSize::Bits32 => a % 0x1_0000_0000,
+    }
+}
+
 // The address and the segment of a memory place, for an instruction of so many bytes; of the registers only base and index are read.
 pub fn effective_address(cpu: &[u8], bytes: u64, place: MemoryPlace) -> Address
     requires { ⌜ length (now cpu) ≡ cpuRecord.cpuSize ⌝ }
     ensures { λ r. ⌜ r ≡ isa.effectiveAddress (λ n. cpuRecord.register n (now (cpu .entry))) (cpuRecord.rip (now (cpu .entry))) bytes place ⌝ }
+    ensures { λ r. ⌜ r .linear < 2 ^ isa.addressBits (place .«address_size») ⌝ }
 {
+    let size = place.address_size;
     let base = place.base;
     let index = place.index;
     let next = std::num::wrapping_add_u64(rip(cpu), bytes);
     let offset = scaled(index_value(cpu, index), place.scale);
     let sum = std::num::wrapping_add_u64(base_value(cpu, next, base), offset);
+    let full = std::num::wrapping_add_u64(sum, place.displacement);
     Address {
-        linear: std::num::wrapping_add_u64(sum, place.displacement),
+        linear: narrowed(full, size),
         segment: segment_of(base),
     }
 }

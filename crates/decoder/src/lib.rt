@@ -3,6 +3,7 @@ ghost use mathlib.Core.Path.{_≡_};
 ghost use Rattle.isa.specs.Decode as isa;
 use fips197::Direction;
 use fips197::KeySize;
+use isa::AddressSize;
 use isa::Decoded;
 use isa::EncodeKey;
 use isa::Instruction;
@@ -148,40 +149,55 @@ fn escape_from(s: &[u8], p: Prefixes, step: Step) -> Decoded
     }
 }
 
-fn rex_of(lock: bool, b: u8) -> Prefixes
-    ensures { λ r. ⌜ r ≡ isa.rexOf lock b ⌝ }
+fn rex_of(lock: bool, size: AddressSize, b: u8) -> Prefixes
+    ensures { λ r. ⌜ r ≡ isa.rexOf lock size b ⌝ }
 {
     Prefixes {
         lock,
+        address_size: size,
         r: b / 4 % 2 == 1,
         x: b / 2 % 2 == 1,
         b: b % 2 == 1,
     }
 }
 
-fn rex_from(s: &[u8], lock: bool, step: Step) -> Decoded
-    ensures { λ r. ⌜ r ≡ isa.rexFrom (now (s .entry)) lock step ⌝ }
+fn rex_from(s: &[u8], lock: bool, size: AddressSize, step: Step) -> Decoded
+    ensures { λ r. ⌜ r ≡ isa.rexFrom (now (s .entry)) lock size step ⌝ }
 {
     match step {
         Step::Byte { value, next } => {
             if value / 16 == 4 {
-                return escape_from(s, rex_of(lock, value), byte_at(s, next));
+                return escape_from(s, rex_of(lock, size, value), byte_at(s, next));
             }
-            escape_from(s, rex_of(lock, 0), step)
+            escape_from(s, rex_of(lock, size, 0), step)
         }
         Step::End => Decoded::EndOfString,
     }
 }
 
-fn rep_from(s: &[u8], lock: bool, step: Step) -> Decoded
-    ensures { λ r. ⌜ r ≡ isa.repFrom (now (s .entry)) lock step ⌝ }
+fn rep_from(s: &[u8], lock: bool, size: AddressSize, step: Step) -> Decoded
+    ensures { λ r. ⌜ r ≡ isa.repFrom (now (s .entry)) lock size step ⌝ }
 {
     match step {
         Step::Byte { value, next } => {
             if value == 0xF3 {
-                return rex_from(s, lock, byte_at(s, next));
+                return rex_from(s, lock, size, byte_at(s, next));
             }
             Decoded::BadByte
+        }
+        Step::End => Decoded::EndOfString,
+    }
+}
+
+fn address_size_from(s: &[u8], lock: bool, step: Step) -> Decoded
+    ensures { λ r. ⌜ r ≡ isa.addressSizeFrom (now (s .entry)) lock step ⌝ }
+{
+    match step {
+        Step::Byte { value, next } => {
+            if value == 0x67 {
+                return rep_from(s, lock, AddressSize::Bits32, byte_at(s, next));
+            }
+            rep_from(s, lock, AddressSize::Bits64, step)
         }
         Step::End => Decoded::EndOfString,
     }
@@ -193,9 +209,9 @@ fn lock_from(s: &[u8], step: Step) -> Decoded
     match step {
         Step::Byte { value, next } => {
             if value == 0xF0 {
-                return rep_from(s, true, byte_at(s, next));
+                return address_size_from(s, true, byte_at(s, next));
             }
-            rep_from(s, false, step)
+            address_size_from(s, false, step)
         }
         Step::End => Decoded::EndOfString,
     }

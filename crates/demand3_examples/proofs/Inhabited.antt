@@ -1,4 +1,5 @@
--- Demand 3 says something of uses: six lists that meet its hypotheses, one with XMM15 and one with a wide form among them, and what it gives for each.
+-- Demand 3 says something of uses: seven lists that meet its hypotheses, one with XMM15, one with a wide form and one with the prefix 67 among them, and what
+-- it gives for each.
 -- Assumes nothing.
 use mathlib.Core.Path.{_≡_, _∙_, refl, sym, ap, subst}
 use mathlib.Core.List.{List, [], _∷_, _++_, append-assoc}
@@ -14,6 +15,8 @@ use Rattle.fips197.specs.declared.KeySize.the-variants.{Aes128, Aes256}
 use Rattle.isa.specs.Address.{effectiveAddress}
 use Rattle.isa.specs.Decode.{decodeAt, displacement32, displacementAt, indexOf, sibOf, modrmOf, instructionOf}
 use Rattle.isa.specs.Ranges.{handleLength, someNotCanonical, someOutside}
+use Rattle.isa.specs.declared.AddressSize.{AddressSize}
+use Rattle.isa.specs.declared.AddressSize.the-variants.{Bits64, Bits32}
 use Rattle.isa.specs.declared.Base.the-variants as base
 use Rattle.isa.specs.declared.EncodeKey.{EncodeKey}
 use Rattle.isa.specs.declared.Index.the-variants as index
@@ -37,17 +40,19 @@ use Rattle.model.proofs.Examples.{spelled, spelled-eq}
 
 -- ---- lists that end in a use of a handle encoded in them
 
--- the calls before the encode, its source, the calls between; the use's processor, CPL and string, the key size and blocks that the string has, and the
--- memory behind the handle
+-- the calls before the encode, its source, the calls between; the use's processor, CPL, RAX and string, the key size, blocks and address size that the string
+-- has, and the memory behind the handle
 record Case : Type 0 where
   before : List Call
   source : ℕ
   between : List Call
   processor : ℕ
   cpl : ℕ
+  address : ℕ
   string : List ℕ
   size : KeySize
   blocks : List ℕ
+  addressSize : AddressSize
   tail : List ℕ
 
 abbrev machine : Machine
@@ -65,9 +70,9 @@ abbrev blocksUpTo : ℕ → List ℕ
 blocksUpTo zero = []
 blocksUpTo (suc n) = blocksUpTo n ++ block n
 
--- [rax]
-abbrev atRax : Operand
-atRax = operand.Memory (record { base = base.Register 0; index = index.None; scale = 0; displacement = 0 })
+-- [rax], [eax]
+abbrev atRax : AddressSize → Operand
+atRax size = operand.Memory (record { base = base.Register 0; index = index.None; scale = 0; displacement = 0; «address_size» = size })
 
 module _ (c : Case) where
   -- ENCODEKEY128 on processor 0
@@ -79,7 +84,7 @@ module _ (c : Case) where
   handle = take 48 (call (run machine (c .before) .machine) (step encode) .answer .cpu)
 
   abbrev useCpu : List ℕ
-  useCpu = sets (sets (rax 0) 0 (blocksUpTo 16)) cplAt (c .cpl ∷ [])
+  useCpu = sets (sets (rax (c .address)) 0 (blocksUpTo 16)) cplAt (c .cpl ∷ [])
 
   -- the use, over a memory
   abbrev useOver : List ℕ → StepCall
@@ -103,7 +108,7 @@ module _ (c : Case) where
       record {
         processor = c .processor;
         cpu = useCpu;
-        form = record { direction = Encrypt; size = c .size; blocks = c .blocks; handle = atRax };
+        form = record { direction = Encrypt; size = c .size; blocks = c .blocks; handle = atRax (c .addressSize) };
         bytesRead = take (handleLength (c .size)) memory;
       }
 
@@ -178,7 +183,7 @@ module _ (c : Case) (m : Meets c) where
       (sym (answer-at machine (c .before) (step (encode c)) (c .between ++ last c ∷ [])))
       (agree-front (handle c) (c .tail) (handleLength (c .size)) (omega (arith, handle-length, length-least (c .size)))))
 
--- ---- the six
+-- ---- the seven
 
 -- the calls before: a load on processor 0
 abbrev loaded : List Call
@@ -193,9 +198,11 @@ by string size blocks source between processor =
       between = between;
       processor = processor;
       cpl = 0;
+      address = 0;
       string = string;
       size = size;
       blocks = blocks;
+      addressSize = Bits64;
       tail = replicate 16 0;
     }
 
@@ -227,19 +234,39 @@ unprivileged =
       between = [];
       processor = 0;
       cpl = 3;
+      address = 0;
       string = encrypt;
       size = Aes128;
       blocks = 0 ∷ [];
+      addressSize = Bits64;
       tail = [];
     }
 
 abbrev otherDirection : Case
 otherDirection = plainly 2 [] 0
 
-met : Meets otherProcessor × Meets oldStore × Meets newStore × Meets otherSize × Meets unprivileged × Meets otherDirection
+-- AESENC128KL xmm0, [eax], where [rax] is not canonical
+abbrev lowHalf : Case
+lowHalf =
+    record {
+      before = loaded;
+      source = 0;
+      between = out 0 ∷ into 1 ∷ [];
+      processor = 1;
+      cpl = 3;
+      address = 0x8000_0000_0000_0000;
+      string = 0x67 ∷ encrypt;
+      size = Aes128;
+      blocks = 0 ∷ [];
+      addressSize = Bits32;
+      tail = [];
+    }
+
+met : Meets otherProcessor × Meets oldStore × Meets newStore × Meets otherSize × Meets unprivileged × Meets otherDirection × Meets lowHalf
 unfolding refusal tests moved copiedOut settledNames decodeAt modrmOf sibOf indexOf displacementAt displacement32 instructionOf effectiveAddress
     someNotCanonical someOutside
 met = (
+  record { encodes = refl; encode-accepted = refl; uses = λ m. refl; use-accepted = λ h. refl; encode-name = refl; use-name = refl },
   record { encodes = refl; encode-accepted = refl; uses = λ m. refl; use-accepted = λ h. refl; encode-name = refl; use-name = refl },
   record { encodes = refl; encode-accepted = refl; uses = λ m. refl; use-accepted = λ h. refl; encode-name = refl; use-name = refl },
   record { encodes = refl; encode-accepted = refl; uses = λ m. refl; use-accepted = λ h. refl; encode-name = refl; use-name = refl },
@@ -256,19 +283,21 @@ Allowed c i j = (zf (after c) ≡ 0) × (xmm i (after c) ≡ aes Encrypt Aes128 
 abbrev Forbidden : Case → ℕ → Type 0
 Forbidden c i = (zf (after c) ≡ 1) × (xmm i (after c) ≡ block i)
 
-pub six-uses : Allowed otherProcessor 0 1 × Allowed oldStore 15 7 × Allowed newStore 7 8 × Forbidden otherSize 0 × Forbidden unprivileged 0
-    × Forbidden otherDirection 0
-six-uses =
+pub seven-uses : Allowed otherProcessor 0 1 × Allowed oldStore 15 7 × Allowed newStore 7 8 × Forbidden otherSize 0 × Forbidden unprivileged 0
+    × Forbidden otherDirection 0 × Allowed lowHalf 0 1
+seven-uses =
     let a = works otherProcessor (met .0) in
     let b = works oldStore (met .1) in
     let c = works newStore (met .2) in
     let d = works otherSize (met .3) in
     let e = works unprivileged (met .4) in
-    let f = works otherDirection (met .5) in (
+    let f = works otherDirection (met .5) in
+    let g = works lowHalf (met .6) in (
       (a .0, a .1 0 (omega arith), a .1 1 (omega arith)),
       (b .0, b .1 15 (omega arith), b .1 7 (omega arith)),
       (c .0, c .1 7 (omega arith), c .1 8 (omega arith)),
       (d .0, d .1 0 (omega arith)),
       (e .0, e .1 0 (omega arith)),
       (f .0, f .1 0 (omega arith)),
+      (g .0, g .1 0 (omega arith), g .1 1 (omega arith)),
     )

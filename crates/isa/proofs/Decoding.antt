@@ -1,4 +1,4 @@
--- The decoder's answer: its length is at most 12 and at most the string's, and no byte behind it matters.
+-- The decoder's answer: its length is at most 13 and at most the string's, and no byte behind it matters.
 -- Assumes nothing.
 use mathlib.Core.Path.{_≡_, refl, sym, ap, subst, _∙_}
 use mathlib.Core.Bool.{Bool, true, false, cond, _&&_}
@@ -9,11 +9,13 @@ use native.Mathlib.Omega.{arith}
 use lib.Dec.{eqb, leb, ltb}
 use lib.ListN.{length, getD}
 use borrow.Author.Tests.{ltb-true, lt-ltb, leb-true, le-leb}
-use Rattle.isa.specs.Decode.{byteAt, extended, signed8, signed32, word32, displacement8, displacement32, displacementAt, placed, indexOf, sibOf, sibFrom, modrmOf, opcode, allowed, built, modrmFrom, opcodeFrom, mapFrom, escapeFrom, rexOf, rexFrom, repFrom, lockFrom, decodeAt}
+use Rattle.isa.specs.Decode.{byteAt, extended, signed8, signed32, word32, displacement8, displacement32, displacementAt, placed, indexOf, sibOf, sibFrom, modrmOf, opcode, allowed, built, modrmFrom, opcodeFrom, mapFrom, escapeFrom, rexOf, rexFrom, repFrom, addressSizeFrom, lockFrom, decodeAt}
 use Rattle.isa.specs.declared.Base.{Base}
 use Rattle.isa.specs.declared.Base.the-variants as base
 use Rattle.isa.specs.declared.Index.{Index}
 use Rattle.isa.specs.declared.Index.the-variants as index
+use Rattle.isa.specs.declared.AddressSize.{AddressSize}
+use Rattle.isa.specs.declared.AddressSize.the-variants.{Bits64, Bits32}
 use Rattle.isa.specs.declared.Operand.the-variants as operand
 use Rattle.isa.specs.declared.Displacement.{Displacement}
 use Rattle.isa.specs.declared.Displacement.the-variants as displacement
@@ -88,20 +90,20 @@ local-displacement mode =
 
 -- ---- operands
 
-module _ (reg : ℕ) (b : Base) (i : Index) (scale : ℕ) where
-  placed-ends : (d : Displacement) (n : ℕ) → endOfOperands (placed reg b i scale d) ≡ some n → endOfDisplacement d ≡ some n
+module _ (size : AddressSize) (reg : ℕ) (b : Base) (i : Index) (scale : ℕ) where
+  placed-ends : (d : Displacement) (n : ℕ) → endOfOperands (placed size reg b i scale d) ≡ some n → endOfDisplacement d ≡ some n
   placed-ends (displacement.Found d next) n e = e
   placed-ends displacement.End n e = e
 
-  local-placed : (f : List ℕ → ℕ → Displacement) → Local endOfDisplacement 4 f → Local endOfOperands 4 (λ s at. placed reg b i scale (f s at))
-  local-placed f l = local-map endOfDisplacement endOfOperands 4 (placed reg b i scale) f placed-ends l
+  local-placed : (f : List ℕ → ℕ → Displacement) → Local endOfDisplacement 4 f → Local endOfOperands 4 (λ s at. placed size reg b i scale (f s at))
+  local-placed f l = local-map endOfDisplacement endOfOperands 4 (placed size reg b i scale) f placed-ends l
 
 local-sib : (p : Prefixes) (mode reg sib : ℕ) → Local endOfOperands 4 (λ s at. sibOf s at p mode reg sib)
 unfolding sibOf
 local-sib p mode reg sib =
     local-cond endOfOperands 4 (eqb mode 0 && eqb (sib % 8) 5) _ _
-    (local-placed reg base.None (indexOf p sib) (sib / 64) displacement32 local-32)
-    (local-placed reg (base.Register (extended (p .b) sib)) (indexOf p sib) (sib / 64) (λ s at. displacementAt s at mode) (local-displacement mode))
+    (local-placed (p .«address_size») reg base.None (indexOf p sib) (sib / 64) displacement32 local-32)
+    (local-placed (p .«address_size») reg (base.Register (extended (p .b) sib)) (indexOf p sib) (sib / 64) (λ s at. displacementAt s at mode) (local-displacement mode))
 
 local-modrm : (p : Prefixes) (m : ℕ) → Local endOfOperands 5 (λ s at. modrmOf s at p m)
 unfolding modrmOf
@@ -113,9 +115,9 @@ local-modrm p m =
     (local-byte endOfOperands 4 (λ s z. sibFrom s p (m / 64) reg z) (λ b s next. sibOf s next p (m / 64) reg b) (λ s n e. nothing e) (λ s b next. refl)
     (λ b. local-sib p (m / 64) reg b))
     (local-cond endOfOperands 5 (eqb (m / 64) 0 && eqb (m % 8) 5) _ _
-    (local-more endOfOperands 4 5 _ (omega arith) (local-placed reg base.Rip index.None 0 displacement32 local-32))
+    (local-more endOfOperands 4 5 _ (omega arith) (local-placed (p .«address_size») reg base.Rip index.None 0 displacement32 local-32))
     (local-more endOfOperands 4 5 _ (omega arith)
-    (local-placed reg (base.Register (extended (p .b) m)) index.None 0 (λ s at. displacementAt s at (m / 64)) (local-displacement (m / 64))))))
+    (local-placed (p .«address_size») reg (base.Register (extended (p .b) m)) index.None 0 (λ s at. displacementAt s at (m / 64)) (local-displacement (m / 64))))))
 
 -- ---- byte by byte
 
@@ -151,21 +153,35 @@ local-escape : (p : Prefixes) → Local endOf 9 (λ s at. escapeFrom s p (byteAt
 local-escape p =
     local-byte endOf 8 (λ s z. escapeFrom s p z) (λ b s next. escapeFrom s p (step.Byte b next)) (λ s n e. nothing e) (λ s b next. refl) (local-escaped p)
 
-local-rex : (lock : Bool) → Local endOf 10 (λ s at. rexFrom s lock (byteAt s at))
-local-rex lock =
-    local-byte endOf 9 (λ s z. rexFrom s lock z) (λ b s next. rexFrom s lock (step.Byte b next)) (λ s n e. nothing e) (λ s b next. refl)
-    (λ b. local-cond endOf 9 (eqb (b / 16) 4) _ _ (local-escape (rexOf lock b)) (local-more endOf 8 9 _ (omega arith) (local-escaped (rexOf lock 0) b)))
+module _ (lock : Bool) (size : AddressSize) where
+  local-rex : Local endOf 10 (λ s at. rexFrom s lock size (byteAt s at))
+  local-rex =
+      local-byte endOf 9 (λ s z. rexFrom s lock size z) (λ b s next. rexFrom s lock size (step.Byte b next)) (λ s n e. nothing e) (λ s b next. refl)
+      (λ b. local-cond endOf 9 (eqb (b / 16) 4) _ _ (local-escape (rexOf lock size b))
+      (local-more endOf 8 9 _ (omega arith) (local-escaped (rexOf lock size 0) b)))
 
--- behind a byte that may be F3
-local-repeated : (lock : Bool) (b : ℕ) → Local endOf 10 (λ s at. repFrom s lock (step.Byte b at))
-local-repeated lock b = local-cond endOf 10 (eqb b 0xF3) _ _ (local-rex lock) (bad 10)
+  -- behind a byte that may be F3
+  local-repeated : (b : ℕ) → Local endOf 10 (λ s at. repFrom s lock size (step.Byte b at))
+  local-repeated b = local-cond endOf 10 (eqb b 0xF3) _ _ local-rex (bad 10)
 
-local-rep : (lock : Bool) → Local endOf 11 (λ s at. repFrom s lock (byteAt s at))
-local-rep lock =
-    local-byte endOf 10 (λ s z. repFrom s lock z) (λ b s next. repFrom s lock (step.Byte b next)) (λ s n e. nothing e) (λ s b next. refl) (local-repeated lock)
+  local-rep : Local endOf 11 (λ s at. repFrom s lock size (byteAt s at))
+  local-rep =
+      local-byte endOf 10 (λ s z. repFrom s lock size z) (λ b s next. repFrom s lock size (step.Byte b next)) (λ s n e. nothing e) (λ s b next. refl)
+      local-repeated
 
-pub decode-local : Local endOf 12 decodeAt
+module _ (lock : Bool) where
+  -- behind a byte that may be 67
+  local-sized : (b : ℕ) → Local endOf 11 (λ s at. addressSizeFrom s lock (step.Byte b at))
+  local-sized b =
+      local-cond endOf 11 (eqb b 0x67) _ _ (local-rep lock Bits32) (local-more endOf 10 11 _ (omega arith) (local-repeated lock Bits64 b))
+
+  local-size : Local endOf 12 (λ s at. addressSizeFrom s lock (byteAt s at))
+  local-size =
+      local-byte endOf 11 (λ s z. addressSizeFrom s lock z) (λ b s next. addressSizeFrom s lock (step.Byte b next)) (λ s n e. nothing e) (λ s b next. refl)
+      local-sized
+
+pub decode-local : Local endOf 13 decodeAt
 unfolding decodeAt
 decode-local =
-    local-byte endOf 11 lockFrom (λ b s next. lockFrom s (step.Byte b next)) (λ s n e. nothing e) (λ s b next. refl)
-    (λ b. local-cond endOf 11 (eqb b 0xF0) _ _ (local-rep true) (local-more endOf 10 11 _ (omega arith) (local-repeated false b)))
+    local-byte endOf 12 lockFrom (λ b s next. lockFrom s (step.Byte b next)) (λ s n e. nothing e) (λ s b next. refl)
+    (λ b. local-cond endOf 12 (eqb b 0xF0) _ _ (local-size true) (local-more endOf 11 12 _ (omega arith) (local-sized false b)))

@@ -1,12 +1,13 @@
--- Strings beside the scope's examples, which are in `model`: REX.R before a wide form, and LOADIWKEY xmm1, xmm2 of Intel 343965-001US section 3.12, SRC1 in
--- the reg field.
+-- Strings beside the scope's examples, which are in `model`: REX.R before a wide form, LOADIWKEY xmm1, xmm2 of Intel 343965-001US section 3.12, SRC1 in the
+-- reg field, and 67 between LOCK and F3.
 -- Assumes nothing.
 use mathlib.Core.Path.{_≡_, refl}
-use mathlib.Core.Bool.{false}
+use mathlib.Core.Bool.{true, false}
 use mathlib.Core.List.{[], _∷_}
 use Rattle.fips197.specs.declared.Direction.the-variants.{Decrypt}
 use Rattle.fips197.specs.declared.KeySize.the-variants.{Aes256}
 use Rattle.isa.specs.Decode.{decode, decodeAt, displacement32, displacementAt, indexOf, sibOf, modrmOf, instructionOf}
+use Rattle.isa.specs.declared.AddressSize.the-variants.{Bits64}
 use Rattle.isa.specs.declared.Base.the-variants as base
 use Rattle.isa.specs.declared.Index.the-variants as index
 use Rattle.isa.specs.declared.Operand.the-variants as operand
@@ -18,7 +19,7 @@ pub wide-rex-r : decode (0xF3 ∷ 0x44 ∷ 0x0F ∷ 0x38 ∷ 0xD8 ∷ 0x18 ∷ [
     ≡ decoded.Found (instruction.WideUse (record {
       direction = Decrypt;
       size = Aes256;
-      handle = operand.Memory (record { base = base.Register 0; index = index.None; scale = 0; displacement = 0 });
+      handle = operand.Memory (record { base = base.Register 0; index = index.None; scale = 0; displacement = 0; «address_size» = Bits64 });
     })) false 6
 unfolding decodeAt modrmOf sibOf indexOf displacementAt displacement32 instructionOf
 wide-rex-r = refl
@@ -27,3 +28,8 @@ pub loadiwkey : decode (0xF3 ∷ 0x0F ∷ 0x38 ∷ 0xDC ∷ 0xCA ∷ [])
     ≡ decoded.Found (instruction.LoadIwKey (record { src1 = 1; src2 = operand.Register 2 })) false 5
 unfolding decodeAt modrmOf sibOf indexOf displacementAt displacement32 instructionOf
 loadiwkey = refl
+
+pub locked : decode (0xF0 ∷ 0x67 ∷ 0xF3 ∷ 0x0F ∷ 0x38 ∷ 0xDC ∷ 0xCA ∷ [])
+    ≡ decoded.Found (instruction.LoadIwKey (record { src1 = 1; src2 = operand.Register 2 })) true 7
+unfolding decodeAt modrmOf sibOf indexOf displacementAt displacement32 instructionOf
+locked = refl

@@ -11,12 +11,14 @@ use borrow.Author.Tests.{ne-eqb, eqb-true, eqb-false, leb-true, leb-false, lt-le
 use Rattle.bits.specs.Bytes.{Bytes}
 use Rattle.bits.proofs.Choice.{on-cond}
 use Rattle.bits.proofs.Lists.{bytes-at}
-use Rattle.isa.specs.Decode.{byteAt, extended, displacement32, displacementAt, placed, indexOf, sibOf, sibFrom, modrmOf, opcode, allowed, instructionOf, built, modrmFrom, opcodeFrom, mapFrom, escapeFrom, rexOf, rexFrom, repFrom, lockFrom, decodeAt}
+use Rattle.isa.specs.Decode.{byteAt, extended, displacement32, displacementAt, placed, indexOf, sibOf, sibFrom, modrmOf, opcode, allowed, instructionOf, built, modrmFrom, opcodeFrom, mapFrom, escapeFrom, rexOf, rexFrom, repFrom, addressSizeFrom, lockFrom, decodeAt}
 use Rattle.isa.specs.Fitting.{IndexFits, InMemory, InRegister, Fits}
 use Rattle.isa.specs.declared.Base.{Base}
 use Rattle.isa.specs.declared.Base.the-variants as base
 use Rattle.isa.specs.declared.Index.{Index}
 use Rattle.isa.specs.declared.Index.the-variants as index
+use Rattle.isa.specs.declared.AddressSize.{AddressSize}
+use Rattle.isa.specs.declared.AddressSize.the-variants.{Bits64, Bits32}
 use Rattle.isa.specs.declared.Instruction.{Instruction}
 use Rattle.isa.specs.declared.Instruction.the-variants as instruction
 use Rattle.isa.specs.declared.Operand.{Operand}
@@ -41,10 +43,11 @@ abbrev OnOperands : (Operand → Type 0) → Operands → Type 0
 OnOperands P (operands.Found reg rm next) = (reg < 16) × P rm
 OnOperands P operands.End = Unit {0}
 
-on-placed : (P : Operand → Type 0) (reg : ℕ) (b : Base) (i : Index) (scale : ℕ) (d : Displacement) → reg < 16
-    → ((n : ℕ) → P (operand.Memory (record { base = b; index = i; scale = scale; displacement = n }))) → OnOperands P (placed reg b i scale d)
-on-placed P reg b i scale (displacement.Found d next) h f = (h, f d)
-on-placed P reg b i scale displacement.End h f = tt
+on-placed : (P : Operand → Type 0) (size : AddressSize) (reg : ℕ) (b : Base) (i : Index) (scale : ℕ) (d : Displacement) → reg < 16
+    → ((n : ℕ) → P (operand.Memory (record { base = b; index = i; scale = scale; displacement = n; «address_size» = size })))
+    → OnOperands P (placed size reg b i scale d)
+on-placed P size reg b i scale (displacement.Found d next) h f = (h, f d)
+on-placed P size reg b i scale displacement.End h f = tt
 
 index-fits : (p : Prefixes) (sib : ℕ) → IndexFits (indexOf p sib)
 unfolding indexOf
@@ -56,9 +59,9 @@ unfolding sibOf
 on-sib s at p mode reg sib h l =
     let scale : sib / 64 < 4 = omega arith in
     on-cond (OnOperands InMemory) (eqb mode 0 && eqb (sib % 8) 5) _ _
-    (λ e. on-placed InMemory reg base.None (indexOf p sib) (sib / 64) (displacement32 s at) h (λ n. (tt, index-fits p sib, scale)))
+    (λ e. on-placed InMemory (p .«address_size») reg base.None (indexOf p sib) (sib / 64) (displacement32 s at) h (λ n. (tt, index-fits p sib, scale)))
     (λ e.
-    on-placed InMemory reg (base.Register (extended (p .b) sib)) (indexOf p sib) (sib / 64) (displacementAt s at mode) h
+    on-placed InMemory (p .«address_size») reg (base.Register (extended (p .b) sib)) (indexOf p sib) (sib / 64) (displacementAt s at mode) h
     (λ n. (extended-lt (p .b) sib, index-fits p sib, scale)))
 
 -- a byte that was read
@@ -83,9 +86,9 @@ module _ (s : List ℕ) (bytes : Bytes s) (at : ℕ) (p : Prefixes) (m : ℕ) wh
       on-cond (OnOperands InMemory) (eqb (m / 64) 3) _ _ (λ e. absurd (n (eqb-true (m / 64) 3 e)))
       (λ e. on-cond (OnOperands InMemory) (eqb (m % 8) 4) _ _ (λ f. on-sib-from s p (m / 64) reg (byteAt s at) h (read-byte s at bytes))
       (λ f. on-cond (OnOperands InMemory) (eqb (m / 64) 0 && eqb (m % 8) 5) _ _
-      (λ g. on-placed InMemory reg base.Rip index.None 0 (displacement32 s at) h (λ n. (tt, tt, lit< tt)))
+      (λ g. on-placed InMemory (p .«address_size») reg base.Rip index.None 0 (displacement32 s at) h (λ n. (tt, tt, lit< tt)))
       (λ g.
-      on-placed InMemory reg (base.Register (extended (p .b) m)) index.None 0 (displacementAt s at (m / 64)) h (λ n. (extended-lt (p .b) m, tt, lit< tt)))))
+      on-placed InMemory (p .«address_size») reg (base.Register (extended (p .b) m)) index.None 0 (displacementAt s at (m / 64)) h (λ n. (extended-lt (p .b) m, tt, lit< tt)))))
 
   on-register : m / 64 ≡ 3 → OnOperands InRegister (modrmOf s at p m)
   unfolding modrmOf
@@ -155,17 +158,21 @@ module _ (s : List ℕ) (P : Decoded → Type 0) (bad : P decoded.BadByte) (ende
   on-escape p (step.Byte b next) = on-cond P (eqb b 0x0F) _ _ (λ e. on-map p (byteAt s next)) (λ e. bad)
   on-escape p step.End = ended
 
-  on-rex : (lock : Bool) (z : Step) → P (rexFrom s lock z)
-  on-rex lock (step.Byte b next) =
-      on-cond P (eqb (b / 16) 4) _ _ (λ e. on-escape (rexOf lock b) (byteAt s next)) (λ e. on-escape (rexOf lock 0) (step.Byte b next))
-  on-rex lock step.End = ended
+  on-rex : (lock : Bool) (size : AddressSize) (z : Step) → P (rexFrom s lock size z)
+  on-rex lock size (step.Byte b next) =
+      on-cond P (eqb (b / 16) 4) _ _ (λ e. on-escape (rexOf lock size b) (byteAt s next)) (λ e. on-escape (rexOf lock size 0) (step.Byte b next))
+  on-rex lock size step.End = ended
 
-  on-rep : (lock : Bool) (z : Step) → P (repFrom s lock z)
-  on-rep lock (step.Byte b next) = on-cond P (eqb b 0xF3) _ _ (λ e. on-rex lock (byteAt s next)) (λ e. bad)
-  on-rep lock step.End = ended
+  on-rep : (lock : Bool) (size : AddressSize) (z : Step) → P (repFrom s lock size z)
+  on-rep lock size (step.Byte b next) = on-cond P (eqb b 0xF3) _ _ (λ e. on-rex lock size (byteAt s next)) (λ e. bad)
+  on-rep lock size step.End = ended
+
+  on-size : (lock : Bool) (z : Step) → P (addressSizeFrom s lock z)
+  on-size lock (step.Byte b next) = on-cond P (eqb b 0x67) _ _ (λ e. on-rep lock Bits32 (byteAt s next)) (λ e. on-rep lock Bits64 (step.Byte b next))
+  on-size lock step.End = ended
 
   on-lock : (z : Step) → P (lockFrom s z)
-  on-lock (step.Byte b next) = on-cond P (eqb b 0xF0) _ _ (λ e. on-rep true (byteAt s next)) (λ e. on-rep false (step.Byte b next))
+  on-lock (step.Byte b next) = on-cond P (eqb b 0xF0) _ _ (λ e. on-size true (byteAt s next)) (λ e. on-size false (step.Byte b next))
   on-lock step.End = ended
 
   on-string : (at : ℕ) → P (decodeAt s at)
@@ -208,8 +215,8 @@ module _ (s : List ℕ) where
   unfolding sibOf
   reg-sib p mode reg (step.Byte sib at) h =
       on-cond (OnOperands Any) (eqb mode 0 && eqb (sib % 8) 5) _ _
-      (λ e. on-placed Any reg base.None (indexOf p sib) (sib / 64) (displacement32 s at) h (λ n. tt))
-      (λ e. on-placed Any reg (base.Register (extended (p .b) sib)) (indexOf p sib) (sib / 64) (displacementAt s at mode) h (λ n. tt))
+      (λ e. on-placed Any (p .«address_size») reg base.None (indexOf p sib) (sib / 64) (displacement32 s at) h (λ n. tt))
+      (λ e. on-placed Any (p .«address_size») reg (base.Register (extended (p .b) sib)) (indexOf p sib) (sib / 64) (displacementAt s at mode) h (λ n. tt))
   reg-sib p mode reg step.End h = tt
 
   reg-modrm : (at : ℕ) (p : Prefixes) (m : ℕ) → OnOperands Any (modrmOf s at p m)
@@ -220,8 +227,8 @@ module _ (s : List ℕ) where
       on-cond (OnOperands Any) (eqb (m / 64) 3) _ _ (λ e. (h, tt))
       (λ e. on-cond (OnOperands Any) (eqb (m % 8) 4) _ _ (λ f. reg-sib p (m / 64) reg (byteAt s at) h)
       (λ f. on-cond (OnOperands Any) (eqb (m / 64) 0 && eqb (m % 8) 5) _ _
-      (λ g. on-placed Any reg base.Rip index.None 0 (displacement32 s at) h (λ n. tt))
-      (λ g. on-placed Any reg (base.Register (extended (p .b) m)) index.None 0 (displacementAt s at (m / 64)) h (λ n. tt))))
+      (λ g. on-placed Any (p .«address_size») reg base.Rip index.None 0 (displacement32 s at) h (λ n. tt))
+      (λ g. on-placed Any (p .«address_size») reg (base.Register (extended (p .b) m)) index.None 0 (displacementAt s at (m / 64)) h (λ n. tt))))
 
   block-built : (lock : Bool) (op m : ℕ) (o : Operands) → OnOperands Any o → OnBlock (built lock op m o)
   unfolding instructionOf

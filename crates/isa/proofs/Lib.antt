@@ -3,4 +3,6 @@ pub mod Ranges
 pub mod Local
 pub mod Decoding
 pub mod Fitting
+pub mod Widths
+pub mod Prefix
 pub mod Examples

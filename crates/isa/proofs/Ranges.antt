@@ -36,7 +36,7 @@ any-false test (suc n) a h =
 
 -- ---- canonical bytes
 
-canonical-low : (a : ℕ) → a < 2 ^ 47 → canonical a ≡ true
+pub canonical-low : (a : ℕ) → a < 2 ^ 47 → canonical a ≡ true
 canonical-low a h =
     let e : a / 2 ^ 47 ≡ 0 = omega arith in
     ap (λ (b : Bool). b || eqb (a / 2 ^ 47) (2 ^ 17 - 1)) (eq-eqb (a / 2 ^ 47) 0 e)

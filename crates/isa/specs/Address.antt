@@ -8,6 +8,8 @@ use Rattle.isa.specs.declared.Base.{Base}
 use Rattle.isa.specs.declared.Base.the-variants as base
 use Rattle.isa.specs.declared.Index.{Index}
 use Rattle.isa.specs.declared.Index.the-variants as index
+use Rattle.isa.specs.declared.AddressSize.{AddressSize}
+use Rattle.isa.specs.declared.AddressSize.the-variants.{Bits64, Bits32}
 use Rattle.isa.specs.declared.MemoryPlace.{MemoryPlace}
 use Rattle.isa.specs.declared.Segment.{Segment}
 use Rattle.isa.specs.declared.Segment.the-variants.{Data, Stack}
@@ -34,10 +36,17 @@ segmentOf (base.Register n) = cond (eqb (n % 16) 4 || eqb (n % 16) 5) Stack Data
 abbrev pub nextRip : ℕ → ℕ → ℕ
 nextRip rip bytes = (rip + bytes) % 2 ^ 64
 
--- the scope, "Instruction strings": modulo 2^64, for an instruction of so many bytes at RIP
+-- SDM volume 1, table 3-4: the address size in bits
+abbrev pub addressBits : AddressSize → ℕ
+addressBits Bits64 = 64
+addressBits Bits32 = 32
+
+-- the scope, "Instruction strings", and change request (ii): modulo 2^64, with the prefix 67 modulo 2^32, for an instruction of so many bytes at RIP
 unfoldable pub effectiveAddress : (ℕ → ℕ) → ℕ → ℕ → MemoryPlace → Address
 effectiveAddress registers rip bytes p =
     record {
-      linear = (baseValue registers (nextRip rip bytes) (p .base) + indexValue registers (p .index) * 2 ^ (p .scale % 4) + p .displacement) % 2 ^ 64;
+      linear =
+          (baseValue registers (nextRip rip bytes) (p .base) + indexValue registers (p .index) * 2 ^ (p .scale % 4) + p .displacement)
+          % 2 ^ addressBits (p .«address_size»);
       segment = segmentOf (p .base);
     }

@@ -1,5 +1,5 @@
--- Instruction strings (the scope, "Instruction strings"; Intel 343965-001US chapter 3; SDM volume 2, 2.1.5 and 2.2.1): optional F0, then F3, at most one
--- REX byte, 0F 38, opcode, ModRM, SIB and displacement, read left to right.
+-- Instruction strings (the scope, "Instruction strings", and change request (ii); Intel 343965-001US chapter 3; SDM volume 2, 2.1.1, 2.1.5 and 2.2.1):
+-- optional F0, optional 67, then F3, at most one REX byte, 0F 38, opcode, ModRM, SIB and displacement, read left to right.
 -- Assumes nothing.
 use mathlib.Core.Bool.{Bool, true, false, cond, _&&_, _||_}
 use mathlib.Core.List.{List, [], _∷_}
@@ -15,6 +15,8 @@ use Rattle.isa.specs.declared.Base.{Base}
 use Rattle.isa.specs.declared.Base.the-variants as base
 use Rattle.isa.specs.declared.Index.{Index}
 use Rattle.isa.specs.declared.Index.the-variants as index
+use Rattle.isa.specs.declared.AddressSize.{AddressSize}
+use Rattle.isa.specs.declared.AddressSize.the-variants.{Bits64, Bits32}
 use Rattle.isa.specs.declared.Operand.{Operand}
 use Rattle.isa.specs.declared.Operand.the-variants as operand
 use Rattle.isa.specs.declared.Instruction.{Instruction}
@@ -66,10 +68,10 @@ unfoldable pub displacementAt : List ℕ → ℕ → ℕ → Displacement
 displacementAt s at mode = cond (eqb mode 1) (displacement8 s at) (cond (eqb mode 2) (displacement32 s at) (displacement.Found 0 at))
 
 -- a memory place, once its displacement is read
-abbrev pub placed : ℕ → Base → Index → ℕ → Displacement → Operands
-placed reg b i scale (displacement.Found d next) =
-    operands.Found reg (operand.Memory (record { base = b; index = i; scale = scale; displacement = d })) next
-placed reg b i scale displacement.End = operands.End
+abbrev pub placed : AddressSize → ℕ → Base → Index → ℕ → Displacement → Operands
+placed size reg b i scale (displacement.Found d next) =
+    operands.Found reg (operand.Memory (record { base = b; index = i; scale = scale; displacement = d; «address_size» = size })) next
+placed size reg b i scale displacement.End = operands.End
 
 -- SDM volume 2, table 2-3 and 2.2.1.2: SIB index 4 is none, but with REX.X it is R12
 unfoldable pub indexOf : Prefixes → ℕ → Index
@@ -79,8 +81,8 @@ indexOf p sib = cond (eqb (extended (p .x) (sib / 8)) 4) index.None (index.Regis
 unfoldable pub sibOf : List ℕ → ℕ → Prefixes → ℕ → ℕ → ℕ → Operands
 sibOf s at p mode reg sib =
     cond (eqb mode 0 && eqb (sib % 8) 5)
-    (placed reg base.None (indexOf p sib) (sib / 64) (displacement32 s at))
-    (placed reg (base.Register (extended (p .b) sib)) (indexOf p sib) (sib / 64) (displacementAt s at mode))
+    (placed (p .«address_size») reg base.None (indexOf p sib) (sib / 64) (displacement32 s at))
+    (placed (p .«address_size») reg (base.Register (extended (p .b) sib)) (indexOf p sib) (sib / 64) (displacementAt s at mode))
 
 abbrev pub sibFrom : List ℕ → Prefixes → ℕ → ℕ → Step → Operands
 sibFrom s p mode reg (step.Byte sib next) = sibOf s next p mode reg sib
@@ -92,8 +94,8 @@ modrmOf s at p m =
     cond (eqb (m / 64) 3) (operands.Found (extended (p .r) (m / 8)) (operand.Register (extended (p .b) m)) at)
     (cond (eqb (m % 8) 4) (sibFrom s p (m / 64) (extended (p .r) (m / 8)) (byteAt s at))
     (cond (eqb (m / 64) 0 && eqb (m % 8) 5)
-    (placed (extended (p .r) (m / 8)) base.Rip index.None 0 (displacement32 s at))
-    (placed (extended (p .r) (m / 8)) (base.Register (extended (p .b) m)) index.None 0 (displacementAt s at (m / 64)))))
+    (placed (p .«address_size») (extended (p .r) (m / 8)) base.Rip index.None 0 (displacement32 s at))
+    (placed (p .«address_size») (extended (p .r) (m / 8)) (base.Register (extended (p .b) m)) index.None 0 (displacementAt s at (m / 64)))))
 
 -- ---- the instructions
 
@@ -147,23 +149,28 @@ escapeFrom s p (step.Byte b next) = cond (eqb b 0x0F) (mapFrom s p (byteAt s nex
 escapeFrom s p step.End = decoded.EndOfString
 
 -- the bits of a REX byte, 0100WRXB
-abbrev pub rexOf : Bool → ℕ → Prefixes
-rexOf lock b = record { lock = lock; r = eqb (b / 4 % 2) 1; x = eqb (b / 2 % 2) 1; b = eqb (b % 2) 1 }
+abbrev pub rexOf : Bool → AddressSize → ℕ → Prefixes
+rexOf lock size b = record { lock = lock; «address_size» = size; r = eqb (b / 4 % 2) 1; x = eqb (b / 2 % 2) 1; b = eqb (b % 2) 1 }
 
 -- from REX, or what stands in its place, on
-abbrev pub rexFrom : List ℕ → Bool → Step → Decoded
-rexFrom s lock (step.Byte b next) =
-    cond (eqb (b / 16) 4) (escapeFrom s (rexOf lock b) (byteAt s next)) (escapeFrom s (rexOf lock 0) (step.Byte b next))
-rexFrom s lock step.End = decoded.EndOfString
+abbrev pub rexFrom : List ℕ → Bool → AddressSize → Step → Decoded
+rexFrom s lock size (step.Byte b next) =
+    cond (eqb (b / 16) 4) (escapeFrom s (rexOf lock size b) (byteAt s next)) (escapeFrom s (rexOf lock size 0) (step.Byte b next))
+rexFrom s lock size step.End = decoded.EndOfString
 
 -- from F3 on
-abbrev pub repFrom : List ℕ → Bool → Step → Decoded
-repFrom s lock (step.Byte b next) = cond (eqb b 0xF3) (rexFrom s lock (byteAt s next)) decoded.BadByte
-repFrom s lock step.End = decoded.EndOfString
+abbrev pub repFrom : List ℕ → Bool → AddressSize → Step → Decoded
+repFrom s lock size (step.Byte b next) = cond (eqb b 0xF3) (rexFrom s lock size (byteAt s next)) decoded.BadByte
+repFrom s lock size step.End = decoded.EndOfString
+
+-- from 67, or what stands in its place, on: without it the address size is 64 bits
+abbrev pub addressSizeFrom : List ℕ → Bool → Step → Decoded
+addressSizeFrom s lock (step.Byte b next) = cond (eqb b 0x67) (repFrom s lock Bits32 (byteAt s next)) (repFrom s lock Bits64 (step.Byte b next))
+addressSizeFrom s lock step.End = decoded.EndOfString
 
 -- from F0, or what stands in its place, on
 abbrev pub lockFrom : List ℕ → Step → Decoded
-lockFrom s (step.Byte b next) = cond (eqb b 0xF0) (repFrom s true (byteAt s next)) (repFrom s false (step.Byte b next))
+lockFrom s (step.Byte b next) = cond (eqb b 0xF0) (addressSizeFrom s true (byteAt s next)) (addressSizeFrom s false (step.Byte b next))
 lockFrom s step.End = decoded.EndOfString
 
 -- the instruction at a position of a string

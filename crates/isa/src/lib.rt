@@ -14,12 +14,19 @@ pub enum Index {
     Register(u8),
 }
 
-// Base + index * 2^scale + displacement, which is sign-extended to 64 bits.
+// The address size of 64-bit mode: 64 bits, or 32 with the address-size prefix 67.
+pub enum AddressSize {
+    Bits64,
+    Bits32,
+}
+
+// Base + index * 2^scale + displacement, which is sign-extended to 64 bits; as many bits of it as the address size has.
 pub struct MemoryPlace {
     pub base: Base,
     pub index: Index,
     pub scale: u8,
     pub displacement: u64,
+    pub address_size: AddressSize,
 }
 
 pub enum Operand {
@@ -87,9 +94,10 @@ pub enum Displacement {
     End,
 }
 
-// What the prefixes say: LOCK, and the bits R, X and B of REX.
+// What the prefixes say: LOCK, the address size, and the bits R, X and B of REX.
 pub struct Prefixes {
     pub lock: bool,
+    pub address_size: AddressSize,
     pub r: bool,
     pub x: bool,
     pub b: bool,

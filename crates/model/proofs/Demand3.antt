@@ -10,7 +10,6 @@ use lib.Dec.{T, eqb, ltb, lt→ltb}
 use lib.ListN.{length, take}
 use borrow.Author.Tests.{ltb-false}
 use Rattle.bits.proofs.Choice.{and-both, T-true}
-use Rattle.isa.specs.Address.{effectiveAddress}
 use Rattle.isa.specs.Decode.{decode}
 use Rattle.isa.specs.Ranges.{handleLength}
 use Rattle.isa.specs.declared.Decoded.{Decoded}
@@ -18,8 +17,6 @@ use Rattle.isa.specs.declared.Decoded.the-variants as decoded
 use Rattle.isa.specs.declared.EncodeKey.{EncodeKey}
 use Rattle.isa.specs.declared.Instruction.{Instruction}
 use Rattle.isa.specs.declared.Instruction.the-variants as instruction
-use Rattle.isa.specs.declared.Operand.{Operand}
-use Rattle.isa.specs.declared.Operand.the-variants as operand
 use Rattle.isa.proofs.Fitting.{OnBlock, block-fits}
 use Rattle.isa.proofs.Ranges.{outside-ends, length-some}
 use Rattle.model.specs.Records.{processorAt}
@@ -35,6 +32,7 @@ use Rattle.model.specs.declared.IwKey.{IwKey}
 use Rattle.model.specs.declared.Machine.{Machine}
 use Rattle.model.proofs.Parts.{part-length}
 use Rattle.model.proofs.Cpu.{registers}
+use Rattle.model.proofs.Addresses.{handle-below-64}
 use Rattle.model.proofs.Uses.{handle-given, use-zf, use-xmm}
 use Rattle.model.proofs.Frames.{call-performed, call-number}
 use Rattle.model.proofs.Refusals.{processor-below, cpu-length, memory-length, handle-inside, never-1}
@@ -115,11 +113,6 @@ form-registers s (instruction.WideUse u) lock bytes f r q =
 form-registers s (instruction.LoadIwKey l) lock bytes f r q = absurd (Option·none-ne-some f q)
 form-registers s (instruction.EncodeKey e) lock bytes f r q = absurd (Option·none-ne-some f q)
 
-address-lt : (cpu : List ℕ) (bytes : ℕ) (o : Operand) → handleAddress cpu bytes o .linear < 2 ^ 64
-unfolding effectiveAddress
-address-lt cpu bytes (operand.Register n) = omega arith
-address-lt cpu bytes (operand.Memory p) = omega arith
-
 module _ (v : View) (s : StepCall) (a : refusal v (step s) ≡ 0) (what : Instruction) (lock : Bool) (bytes : ℕ) (f : Form)
     (r : decode (s .string) ≡ decoded.Found what lock bytes) (q : _≡_ {A = Option Form} (formOf what) (some f)) where
   pub handle-fits : handleAddress (s .cpu) bytes (f .handle) .linear + handleLength (f .size) ≤ length (s .memory)
@@ -128,7 +121,7 @@ module _ (v : View) (s : StepCall) (a : refusal v (step s) ≡ 0) (what : Instru
       let n = handleLength (f .size) in
       let few = memory-length v s a in
       ltb-false (length (s .memory)) (at + n)
-      (sym (outside-ends (length (s .memory)) at n (omega arith) (address-lt (s .cpu) bytes (f .handle)) (length-some (f .size)))
+      (sym (outside-ends (length (s .memory)) at n (omega arith) (handle-below-64 (s .cpu) bytes (f .handle)) (length-some (f .size)))
       ∙ handle-inside v s a what lock bytes f r q)
 
   read-length : length (handleRead (s .memory) (s .cpu) bytes f) ≡ handleLength (f .size)

@@ -1,4 +1,4 @@
--- The scope, "Twelve settled examples": K1 to K12 hold.
+-- The scope, "Twelve settled examples": K1 to K12 hold; so do those of change request (ii).
 -- Assumes nothing.
 use mathlib.Core.Path.{_≡_, refl, ap}
 use mathlib.Core.List.{List, [], _∷_}
@@ -25,7 +25,7 @@ use Rattle.model.specs.Instructions.{encoded, openedFor, aes, ciphered, 
 use Rattle.model.specs.Backup.{copyOut, settled, woken}
 use Rattle.model.specs.Execution.{perform, call}
 use Rattle.model.specs.declared.IwKey.{IwKey}
-use Rattle.model.specs.Examples.{AllFulfilled, rax, rip, cpu, randomKey, xmm3Cpu, examples}
+use Rattle.model.specs.Examples.{AllFulfilled, rax, rip, cpu, randomKey, xmm3Cpu, examples, addressSizeExamples}
 use Rattle.model.proofs.Uses.{aes-length}
 
 -- ---- the examples that encode: what is seen of them does not depend on the tag and the ciphertext
@@ -121,4 +121,18 @@ all-hold =
     (refl, tt) also (refl, tt) also (refl, tt) also (refl, tt) also (refl, tt) also (refl, tt) also (refl, tt) also
     -- RFLAGS, RIP, the backup status
     (refl, refl) also (refl, k6 (openedFor zeroKey 0 Aes256 Encrypt (replicate 64 0))) also (refl, refl) also (refl, refl) also
+    tt
+
+pub address-size-hold : AllFulfilled addressSizeExamples
+unfolding call valid validProcessors refusal tests perform executed encoded used loadedKey
+    decodeAt modrmOf sibOf indexOf displacementAt displacement32 instructionOf effectiveAddress someNotCanonical someOutside
+address-size-hold =
+    -- RAX
+    (refl, tt) also (refl, tt) also (refl, tt) also (refl, tt) also (refl, refl) also (refl, tt) also
+    -- K2, K3, K6
+    (refl, tt) also (refl, tt) also (refl, refl) also (refl, refl) also
+    -- registers
+    (refl, refl) also (refl, refl) also (refl, tt) also
+    -- the grammar
+    (refl, tt) also (refl, tt) also (refl, tt) also (refl, tt) also (refl, tt) also (refl, tt) also (refl, tt) also
     tt

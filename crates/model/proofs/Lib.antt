@@ -1,6 +1,7 @@
 pub mod Parts
 pub mod Lists
 pub mod Refusals
+pub mod Addresses
 pub mod Cpu
 pub mod Uses
 pub mod Frames

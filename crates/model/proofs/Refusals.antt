@@ -4,11 +4,11 @@ use mathlib.Core.Path.{_≡_, _∙_, refl, sym, ap, subst}
 use mathlib.Core.Bool.{Bool, true, false, cond, not, _&&_, or-false}
 use mathlib.Core.List.{List, [], _∷_}
 use mathlib.Core.Option.{some}
-use Prim.Native.Nat.{ℕ, _<_, _≤_}
+use Prim.Native.Nat.{ℕ, zero, suc, _<_, _≤_}
 use lib.Dec.{T, eqb, leb}
-use lib.ListN.{length}
+use lib.ListN.{length, take, drop}
 use borrow.Author.Tests.{leb-false, ltb-false, eqb-true, not-false}
-use Rattle.bits.proofs.Choice.{and-left, and-right}
+use Rattle.bits.proofs.Choice.{and-left, and-right, on-cond}
 use Rattle.isa.specs.Decode.{decode}
 use Rattle.isa.specs.declared.Decoded.the-variants as decoded
 use Rattle.isa.specs.declared.Instruction.{Instruction}
@@ -22,20 +22,27 @@ abbrev pub Clear : List Test → Type 0
 Clear [] = Unit {0}
 Clear (t ∷ l) = (t .holds ≡ false) × Clear l
 
+-- every number of the list whose test holds passes a test
+abbrev pub Holding : (ℕ → Bool) → List Test → Type 0
+Holding f [] = Unit {0}
+Holding f (t ∷ l) = (t .holds ≡ true → T (f (t .number))) × Holding f l
+
+-- so does the first
+pub first-holding : (f : ℕ → Bool) (l : List Test) → T (f 0) → Holding f l → T (f (first l))
+first-holding f [] z h = z
+first-holding f (t ∷ l) z h = on-cond (λ n. T (f n)) (t .holds) (t .number) (first l) (h .0) (λ e. first-holding f l z (h .1))
+
 -- every number of the list passes a test
 abbrev numbersAre : (ℕ → Bool) → List Test → Bool
 numbersAre f [] = true
 numbersAre f (t ∷ l) = f (t .number) && numbersAre f l
 
--- so does the first
-first-is : (f : ℕ → Bool) (l : List Test) → T (f 0) → T (numbersAre f l) → T (f (first l))
-first-is f [] z h = z
-first-is f (t ∷ l) z h =
-    pick (t .holds) (t .number) (first l) (and-left (f (t .number)) (numbersAre f l) h) (first-is f l z (and-right (f (t .number)) (numbersAre f l) h))
-  where
-    pick : (b : Bool) (x y : ℕ) → T (f x) → T (f y) → T (f (cond b x y))
-    pick true x y p q = p
-    pick false x y p q = q
+-- where the first k do, the others decide
+pub holding-from : (f : ℕ → Bool) (k : ℕ) (l : List Test) → T (numbersAre f (take k l)) → Holding f (drop k l) → Holding f l
+holding-from f zero l h r = r
+holding-from f (suc k) [] h r = tt
+holding-from f (suc k) (t ∷ l) h r =
+    (λ e. and-left (f (t .number)) (numbersAre f (take k l)) h, holding-from f k l (and-right (f (t .number)) (numbersAre f (take k l)) h) r)
 
 first-clear : (l : List Test) → T (numbersAre (λ n. not (eqb n 0)) l) → first l ≡ 0 → Clear l
 first-clear [] h e = tt
@@ -53,7 +60,7 @@ passes v c e = first-clear (tests v (operands c)) tt e
 
 pub never-1 : (v : View) (c : Call) → T (not (eqb (refusal v c) 1))
 unfolding refusal tests
-never-1 v c = first-is (λ n. not (eqb n 1)) (tests v (operands c)) tt tt
+never-1 v c = first-holding (λ n. not (eqb n 1)) (tests v (operands c)) tt (holding-from (λ n. not (eqb n 1)) 13 (tests v (operands c)) tt tt)
 
 -- that of a step is that of what is looked at in it
 pub step-asked : (v : View) (s : StepCall) → stepRefusal v (asked s) ≡ refusal v (step s)

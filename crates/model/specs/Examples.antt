@@ -1,4 +1,5 @@
--- The scope, "Twelve settled examples": K1 to K12 as one list, with more behind them that no other theorem stands for, and what it is for an example to hold.
+-- The scope, "Twelve settled examples": K1 to K12 as one list, with more behind them that no other theorem stands for, and what it is for an example to hold;
+-- a second list for change request (ii).
 -- Assumes nothing.
 use mathlib.Core.Path.{_≡_}
 use mathlib.Core.List.{List, [], _∷_, _++_}
@@ -9,7 +10,7 @@ use lib.Seq.{sets}
 use Rattle.fips197.specs.declared.Direction.{Direction}
 use Rattle.fips197.specs.declared.Direction.the-variants.{Encrypt, Decrypt}
 use Rattle.fips197.specs.declared.KeySize.{KeySize}
-use Rattle.fips197.specs.declared.KeySize.the-variants.{Aes256}
+use Rattle.fips197.specs.declared.KeySize.the-variants.{Aes128, Aes256}
 use Rattle.isa.specs.Decode.{decode}
 use Rattle.isa.specs.declared.Decoded.{Decoded}
 use Rattle.isa.specs.declared.Decoded.the-variants as decoded
@@ -247,4 +248,39 @@ examples =
     -- "valid in bit 0, error 2, consumed 3": a bad settle, and a sleep that leaves junk
     ∷ backupStatus (writes 0 0xD91 1 ∷ settle (record { code = 1 }) ∷ []) 12
     ∷ backupStatus (sleep (record { code = 2 }) ∷ []) 4
+    ∷ []
+
+-- change request (ii): the prefix 67
+abbrev pub addressSizeExamples : List Example
+addressSizeExamples =
+    -- RAX 0x100000000: memory 48 loads, and gives 14 without 67.
+    gives (on (rax 0x1_0000_0000) 48 (0x67 ∷ encrypt)) 0
+    ∷ gives (on (rax 0x1_0000_0000) 48 encrypt) 14
+    -- RAX 0x8000000000000000: loads, and gives 12 without 67.
+    ∷ gives (on (rax 0x8000_0000_0000_0000) 48 (0x67 ∷ encrypt)) 0
+    ∷ gives (on (rax 0x8000_0000_0000_0000) 48 encrypt) 12
+    -- AESENC128KL xmm0, [eax + 0x10], RAX 0xFFFFFFF0: address 0. With -0x10 and RAX 0 it is 0xFFFFFFF0, and the last bytes do not come back to 0: 14.
+    ∷ shows (on (rax 0xFFFF_FFF0) 48 (0x67 ∷ 0xF3 ∷ 0x0F ∷ 0x38 ∷ 0xDC ∷ 0x40 ∷ 0x10 ∷ [])) (uses Encrypt Aes128 (0 ∷ []) 0)
+    ∷ gives (on (rax 0) 48 (0x67 ∷ 0xF3 ∷ 0x0F ∷ 0x38 ∷ 0xDC ∷ 0x40 ∷ 0xF0 ∷ [])) 14
+    -- K2 and K3 with 67: 14, not 12 and 13.
+    ∷ gives (on (rax 0x7FFF_FFFF_FFD1) 48 (0x67 ∷ encrypt)) 14
+    ∷ gives (on (rsp 0x7FFF_FFFF_FFD1) 48 (0x67 ∷ 0xF3 ∷ 0x0F ∷ 0x38 ∷ 0xDC ∷ 0x04 ∷ 0x24 ∷ [])) 14
+    -- K6 with 67 has eleven bytes: address 27, and 0 where RIP 0xFFFFFFE5 comes to 2^32.
+    ∷ shows (on (rip 0) 91 (0x67 ∷ ripRelative)) (uses Encrypt Aes256 (8 ∷ []) 27)
+    ∷ shows (on (rip 0xFFFF_FFE5) 64 (0x67 ∷ ripRelative)) (uses Encrypt Aes256 (8 ∷ []) 0)
+    -- 67 before registers counts in the length alone.
+    ∷ shows (on halvesCpu 0 (0x67 ∷ loadIwKey)) (ripIs 6)
+    ∷ shows (on halvesCpu 0 (0x67 ∷ loadIwKey)) (keyIs halvesKey)
+    ∷ gives (on cpu 0 (0x67 ∷ encodeKey128)) 0
+    -- "after LOCK": F0 67 gives 10, 67 F0 gives 8.
+    ∷ gives (on (rax 0) 48 (0xF0 ∷ 0x67 ∷ encrypt)) 10
+    ∷ gives (on (rax 0) 48 (0x67 ∷ 0xF0 ∷ encrypt)) 8
+    -- "One byte 67": 67 67 gives 8.
+    ∷ gives (on (rax 0) 48 (0x67 ∷ 0x67 ∷ encrypt)) 8
+    -- "before F3": F3 67, and 67 behind REX, give 8.
+    ∷ gives (on (rax 0) 48 (0xF3 ∷ 0x67 ∷ 0x0F ∷ 0x38 ∷ 0xDC ∷ 0x00 ∷ [])) 8
+    ∷ gives (on (rax 0) 48 (0xF3 ∷ 0x48 ∷ 0x67 ∷ 0x0F ∷ 0x38 ∷ 0xDC ∷ 0x00 ∷ [])) 8
+    -- 67 and F0 67 alone give 9.
+    ∷ gives (on (rax 0) 48 (0x67 ∷ [])) 9
+    ∷ gives (on (rax 0) 48 (0xF0 ∷ 0x67 ∷ [])) 9
     ∷ []

@@ -2,6 +2,7 @@
 ghost use mathlib.Core.Path.{_≡_};
 ghost use Prim.Native.Nat.{_<_};
 ghost use Rattle.isa.specs.Decode as isa;
+use isa::AddressSize;
 use isa::Base;
 use isa::Displacement;
 use isa::Index;
@@ -96,8 +97,15 @@ fn displacement_at(s: &[u8], at: usize, mode: u8) -> Displacement
     Displacement::Found { value: 0, next: at }
 }
 
-fn placed(reg: u8, base: Base, index: Index, scale: u8, d: Displacement) -> Operands
-    ensures { λ r. ⌜ r ≡ isa.placed reg base index scale d ⌝ }
+fn placed(
+    size: AddressSize,
+    reg: u8,
+    base: Base,
+    index: Index,
+    scale: u8,
+    d: Displacement,
+) -> Operands
+    ensures { λ r. ⌜ r ≡ isa.placed size reg base index scale d ⌝ }
 {
     match d {
         Displacement::Found { value, next } => Operands::Found {
@@ -107,6 +115,7 @@ fn placed(reg: u8, base: Base, index: Index, scale: u8, d: Displacement) -> Oper
                 index,
                 scale,
                 displacement: value,
+                address_size: size,
             }),
             next,
         },
@@ -127,12 +136,15 @@ fn index_of(p: Prefixes, sib: u8) -> Index
 fn sib_of(s: &[u8], at: usize, p: Prefixes, mode: u8, reg: u8, sib: u8) -> Operands
     ensures { λ r. ⌜ r ≡ isa.sibOf (now (s .entry)) at p mode reg sib ⌝ }
 {
+    let size = p.address_size;
     let index = index_of(p, sib);
     if (mode == 0) & (sib % 8 == 5) {
-        return placed(reg, Base::None, index, sib / 64, displacement_32(s, at));
+        let d = displacement_32(s, at);
+        return placed(size, reg, Base::None, index, sib / 64, d);
     }
     let base = Base::Register(extended(p.b, sib));
-    placed(reg, base, index, sib / 64, displacement_at(s, at, mode))
+    let d = displacement_at(s, at, mode);
+    placed(size, reg, base, index, sib / 64, d)
 }
 
 fn sib_from(s: &[u8], p: Prefixes, mode: u8, reg: u8, step: Step) -> Operands
@@ -148,6 +160,7 @@ fn sib_from(s: &[u8], p: Prefixes, mode: u8, reg: u8, step: Step) -> Operands
 pub fn modrm_of(s: &[u8], at: usize, p: Prefixes, m: u8) -> Operands
     ensures { λ r. ⌜ r ≡ isa.modrmOf (now (s .entry)) at p m ⌝ }
 {
+    let size = p.address_size;
     let reg = extended(p.r, m / 8);
     let rm = extended(p.b, m);
     if m / 64 == 3 {
@@ -161,8 +174,10 @@ pub fn modrm_of(s: &[u8], at: usize, p: Prefixes, m: u8) -> Operands
         return sib_from(s, p, m / 64, reg, byte_at(s, at));
     }
     if (m / 64 == 0) & (m % 8 == 5) {
-        return placed(reg, Base::Rip, Index::None, 0, displacement_32(s, at));
+        let d = displacement_32(s, at);
+        return placed(size, reg, Base::Rip, Index::None, 0, d);
     }
     let base = Base::Register(rm);
-    placed(reg, base, Index::None, 0, displacement_at(s, at, m / 64))
+    let d = displacement_at(s, at, m / 64);
+    placed(size, reg, base, Index::None, 0, d)
 }

@@ -1,7 +1,7 @@
 -- Assumes nothing.
 use mathlib.Core.Path.{_∙_, refl, ap}
 use Rattle.isa.specs.Decode.{escapeFrom, mapFrom}
-use Rattle.decoder.proofs.Fixed.{fixed-there, fixed-bad}
+use Rattle.decoder.proofs.Fixed.{fixed-there, fixed-else}
 use borrow.Author.Needs.{needs}
 use Rattle.decoder.proofs.escape_from.Statement.{statement}
 use Rattle.decoder.proofs.escape_from.Tie as tie
@@ -19,13 +19,13 @@ returns : tie.Need-returns
 returns c =
     let a = c .before .before .before .before .before .before .before .args in
     c .map-from .ensures ∙ ap (mapFrom (a .s .now) (a .p)) (c .before .byte-at .ensures)
-    ∙ fixed-there (escapeFrom (a .s .now) (a .p)) 0x0F _ (c .before .before .before .before .step .given .1) refl (c .before .before .if1 .taken)
+    ∙ fixed-there (escapeFrom (a .s .now) (a .p)) 0x0F _ _ (c .before .before .before .before .step .given .1) refl (c .before .before .if1 .taken)
 
 enum-told : tie.Need-enum-told
 enum-told c = search needs
 
 returns-2 : tie.Need-returns-2
-returns-2 c = fixed-bad (escapeFrom _ _) 0x0F _ (c .before .before .step .given .1) refl (c .if1 .left)
+returns-2 c = fixed-else (escapeFrom _ _) 0x0F _ _ (c .before .before .step .given .1) refl (c .if1 .left)
 
 returns-3 : tie.Need-returns-3
 returns-3 c = search needs

@@ -1,10 +1,8 @@
 -- Assumes nothing.
-use mathlib.Core.Path.{sym, ap, _∙_}
+use mathlib.Core.Path.{_∙_, refl, ap}
 use mathlib.Core.Bool.{true}
-use borrow.Author.Tests.{eq-eqb, ne-eqb}
-use Rattle.bits.proofs.Choice.{cond-on, cond-off}
-use Rattle.isa.specs.Decode.{lockFrom, repFrom}
-use Rattle.isa.specs.declared.Step.{Step}
+use Rattle.isa.specs.Decode.{lockFrom, addressSizeFrom}
+use Rattle.decoder.proofs.Fixed.{fixed-there, fixed-else}
 use borrow.Author.Needs.{needs}
 use Rattle.decoder.proofs.lock_from.Statement.{statement}
 use Rattle.decoder.proofs.lock_from.Tie as tie
@@ -15,17 +13,17 @@ enum-known-step c = search needs
 byte-at-requires : tie.Need-byte-at-requires
 byte-at-requires c κs = search needs
 
-rep-from-requires : tie.Need-rep-from-requires
-rep-from-requires c κs = search needs
+address-size-from-requires : tie.Need-address-size-from-requires
+address-size-from-requires c κs = search needs
 
 returns : tie.Need-returns
 returns c =
     let a = c .before .before .before .before .before .before .before .args in
-    c .rep-from .ensures ∙ ap (λ (z : Step). repFrom (a .s .now) true z) (c .before .byte-at .ensures)
-    ∙ sym (cond-on (eq-eqb _ _ (c .before .before .if1 .taken)) _ _) ∙ ap (λ (z : Step). lockFrom (a .s .now) z) (sym (c .before .before .before .before .step .given .1))
+    c .address-size-from .ensures ∙ ap (addressSizeFrom (a .s .now) true) (c .before .byte-at .ensures)
+    ∙ fixed-there (lockFrom (a .s .now)) 0xF0 _ _ (c .before .before .before .before .step .given .1) refl (c .before .before .if1 .taken)
 
-rep-from-requires-2 : tie.Need-rep-from-requires-2
-rep-from-requires-2 c κs = search needs
+address-size-from-requires-2 : tie.Need-address-size-from-requires-2
+address-size-from-requires-2 c κs = search needs
 
 enum-told : tie.Need-enum-told
 enum-told c = search needs
@@ -33,9 +31,7 @@ enum-told c = search needs
 returns-2 : tie.Need-returns-2
 returns-2 c =
     let a = c .before .before .before .before .before .before .args in
-    let known = c .before .before .before .step .given .1 in
-    c .rep-from2 .ensures
-    ∙ sym (cond-off (ne-eqb _ _ (c .before .if1 .left)) _ _) ∙ ap (λ (z : Step). lockFrom (a .s .now) z) (sym known)
+    c .address-size-from2 .ensures ∙ fixed-else (lockFrom (a .s .now)) 0xF0 _ _ (c .before .before .before .step .given .1) refl (c .before .if1 .left)
 
 returns-3 : tie.Need-returns-3
 returns-3 c = search needs
@@ -46,9 +42,9 @@ lock-from-spec =
     (tie.spec
     enum-known-step
     byte-at-requires
-    rep-from-requires
+    address-size-from-requires
     returns
-    rep-from-requires-2
+    address-size-from-requires-2
     enum-told
     returns-2
     returns-3)

@@ -1,7 +1,7 @@
 -- Assumes nothing.
 use mathlib.Core.Path.{_∙_, refl, ap}
 use Rattle.isa.specs.Decode.{mapFrom, opcodeFrom}
-use Rattle.decoder.proofs.Fixed.{fixed-there, fixed-bad}
+use Rattle.decoder.proofs.Fixed.{fixed-there, fixed-else}
 use borrow.Author.Needs.{needs}
 use Rattle.decoder.proofs.map_from.Statement.{statement}
 use Rattle.decoder.proofs.map_from.Tie as tie
@@ -19,13 +19,13 @@ returns : tie.Need-returns
 returns c =
     let a = c .before .before .before .before .before .before .before .args in
     c .opcode-from .ensures ∙ ap (opcodeFrom (a .s .now) (a .p)) (c .before .byte-at .ensures)
-    ∙ fixed-there (mapFrom (a .s .now) (a .p)) 0x38 _ (c .before .before .before .before .step .given .1) refl (c .before .before .if1 .taken)
+    ∙ fixed-there (mapFrom (a .s .now) (a .p)) 0x38 _ _ (c .before .before .before .before .step .given .1) refl (c .before .before .if1 .taken)
 
 enum-told : tie.Need-enum-told
 enum-told c = search needs
 
 returns-2 : tie.Need-returns-2
-returns-2 c = fixed-bad (mapFrom _ _) 0x38 _ (c .before .before .step .given .1) refl (c .if1 .left)
+returns-2 c = fixed-else (mapFrom _ _) 0x38 _ _ (c .before .before .step .given .1) refl (c .if1 .left)
 
 returns-3 : tie.Need-returns-3
 returns-3 c = search needs

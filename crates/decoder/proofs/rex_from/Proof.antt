@@ -26,7 +26,7 @@ returns : tie.Need-returns
 returns c =
     let a = c .before .before .before .before .before .before .before .before .args in
     c .escape-from .ensures ∙ (λ j. escapeFrom (a .s .now) (c .before .before .rex-of .ensures j) (c .before .byte-at .ensures j))
-    ∙ sym (cond-on (eq-eqb _ _ (c .before .before .before .if1 .taken)) _ _) ∙ ap (λ (z : Step). rexFrom (a .s .now) (a .lock) z) (sym (c .before .before .before .before .before .step .given .1))
+    ∙ sym (cond-on (eq-eqb _ _ (c .before .before .before .if1 .taken)) _ _) ∙ ap (λ (z : Step). rexFrom (a .s .now) (a .lock) (a .size) z) (sym (c .before .before .before .before .before .step .given .1))
 
 rex-of-requires-2 : tie.Need-rex-of-requires-2
 rex-of-requires-2 c κs = search needs
@@ -42,7 +42,7 @@ returns-2 c =
     let a = c .before .before .before .before .before .before .before .args in
     let known = c .before .before .before .before .step .given .1 in
     c .escape-from2 .ensures ∙ ap (λ (p : Prefixes). escapeFrom (a .s .now) p (step.Byte (c .before .before .before .before .step .given .0 .0) (c .before .before .before .before .step .given .0 .1 .0))) (c .before .rex-of2 .ensures)
-    ∙ sym (cond-off (ne-eqb _ _ (c .before .before .if1 .left)) _ _) ∙ ap (λ (z : Step). rexFrom (a .s .now) (a .lock) z) (sym known)
+    ∙ sym (cond-off (ne-eqb _ _ (c .before .before .if1 .left)) _ _) ∙ ap (λ (z : Step). rexFrom (a .s .now) (a .lock) (a .size) z) (sym known)
 
 returns-3 : tie.Need-returns-3
 returns-3 c = search needs

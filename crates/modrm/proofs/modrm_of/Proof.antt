@@ -51,7 +51,7 @@ unfolding modrmOf
 returns-3 c =
     let a = c .before .before .before .before .before .before .before .before .args in
     c .placed .ensures
-    ∙ (λ j. placed (c .before .before .before .before .before .before .extended .ensures j) base.Rip index.None 0 (c .before .displacement-32 .ensures j))
+    ∙ (λ j. placed (a .p .«address_size») (c .before .before .before .before .before .before .extended .ensures j) base.Rip index.None 0 (c .before .displacement-32 .ensures j))
     ∙ sym (cond-on (c .before .before .if3 .taken) _ _)
     ∙ sym (cond-off (ne-eqb _ _ (c .before .before .before .if2 .left)) _ _)
     ∙ sym (cond-off (ne-eqb _ _ (c .before .before .before .before .if1 .left)) _ _)
@@ -67,7 +67,7 @@ unfolding modrmOf
 returns-4 c =
     let a = c .before .before .before .before .before .before .before .before .args in
     c .placed2 .ensures
-    ∙ (λ j. placed (c .before .before .before .before .before .before .extended .ensures j) (base.Register (c .before .before .before .before .before .extended2 .ensures j)) index.None 0 (c .before .displacement-at .ensures j))
+    ∙ (λ j. placed (a .p .«address_size») (c .before .before .before .before .before .before .extended .ensures j) (base.Register (c .before .before .before .before .before .extended2 .ensures j)) index.None 0 (c .before .displacement-at .ensures j))
     ∙ sym (cond-off (c .before .before .if3 .left) _ _)
     ∙ sym (cond-off (ne-eqb _ _ (c .before .before .before .if2 .left)) _ _)
     ∙ sym (cond-off (ne-eqb _ _ (c .before .before .before .before .if1 .left)) _ _)

@@ -15,7 +15,7 @@ enum-told c = search needs
 returns : tie.Need-returns
 returns c =
     let a = c .before .before .before .args in
-    ap (λ (d : Displacement). placed (a .reg) (a .base) (a .index) (a .scale) d) (sym (c .before .d .given .1))
+    ap (λ (d : Displacement). placed (a .size) (a .reg) (a .base) (a .index) (a .scale) d) (sym (c .before .d .given .1))
 
 returns-2 : tie.Need-returns-2
 returns-2 c = search needs

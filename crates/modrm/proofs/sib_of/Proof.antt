@@ -24,7 +24,7 @@ unfolding sibOf
 returns c =
     let a = c .before .before .before .before .before .args in
     c .placed .ensures
-    ∙ ap₂ (λ (i : Index) (d : Displacement). placed (a .reg) base.None i (a .sib / 64) d) (c .before .before .before .index-of .ensures) (c .before .displacement-32 .ensures)
+    ∙ ap₂ (λ (i : Index) (d : Displacement). placed (a .p .«address_size») (a .reg) base.None i (a .sib / 64) d) (c .before .before .before .index-of .ensures) (c .before .displacement-32 .ensures)
     ∙ sym (cond-on (c .before .before .if1 .taken) _ _)
 
 extended-requires : tie.Need-extended-requires
@@ -41,7 +41,7 @@ unfolding sibOf
 returns-2 c =
     let a = c .before .before .before .before .before .before .args in
     c .placed2 .ensures
-    ∙ (λ j. placed (a .reg) (base.Register (c .before .before .extended .ensures j)) (c .before .before .before .before .index-of .ensures j) (a .sib / 64) (c .before .displacement-at .ensures j))
+    ∙ (λ j. placed (a .p .«address_size») (a .reg) (base.Register (c .before .before .extended .ensures j)) (c .before .before .before .before .index-of .ensures j) (a .sib / 64) (c .before .displacement-at .ensures j))
     ∙ sym (cond-off (c .before .before .before .if1 .left) _ _)
 
 pub sib-of-spec : {M : Type 1} → statement M

@@ -21,7 +21,7 @@ returns c =
 returns-2 : tie.Need-returns-2
 returns-2 c =
     let a = c .before .before .before .before .before .args in
-    c .effective-address .ensures ∙ ap (handleAddress (a .cpu .now) (a .bytes)) (sym (c .before .before .o .given .1))
+    c .effective-address .ensures .0 ∙ ap (handleAddress (a .cpu .now) (a .bytes)) (sym (c .before .before .o .given .1))
 
 pub handle-address-spec : {M : Type 1} → statement M
 handle-address-spec =
