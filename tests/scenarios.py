@@ -589,6 +589,8 @@ def narrow_places(s):
         (14, "absolute-negative", absolute + "f0 ff ff ff", {}, h),
         (0, "memory-49", "67" + ENC_128, dict(rax=0x1_0000_0001), bytes(1) + h),
         (14, "memory-48", "67" + ENC_128, dict(rax=0x1_0000_0001), h),
+        (14, "rax-2-16", "67" + ENC_128, dict(rax=2**16), h),
+        (14, "rax-2-31", "67" + ENC_128, dict(rax=2**31), h),
         (14, "over-2-32", "67" + ENC_128, dict(rax=2**32 - 8), bytes(64)),
     ]:
         cpu = record({0: PLAIN, 8: PLAIN}, **registers)
@@ -1163,7 +1165,7 @@ def random_step(rng, s, name):
     before = rng.randrange(64)
     memory = rng.randbytes(before) + h + rng.randbytes(rng.choice([0, 0, 16, 40]))
     memory = often(rng, lambda: memory, lambda: memory[: rng.randrange(len(memory))], 0.95)
-    aim(rng, cpu, string, often(rng, lambda: before, lambda: rng.choice([*EDGES, 2**32 + before]) + rng.randrange(-1, 2)))
+    aim(rng, cpu, string, often(rng, lambda: before, lambda: rng.choice([*EDGES, 2**31 + before, 2**32 + before]) + rng.randrange(-1, 2)))
     record = bytes(cpu.bytes)
     record = often(rng, lambda: record, lambda: rng.choice([record[:407], record + b"\0", b""]), 0.99)
     data = rng.randbytes(often(rng, lambda: rng.choice([0, 48]), lambda: rng.randrange(60), 0.98))
