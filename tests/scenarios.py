@@ -545,7 +545,7 @@ def operands(s):
 # ---- the prefix 67: addresses modulo 2^32, and where in a string it may stand
 
 
-def low_addresses(s):
+def address_size_wraps(s):
     """The handle is at 0, where these lead with 67; without it they are refused."""
     h = handle(A, KEY_128)
     for name, string, registers, without in [
@@ -570,7 +570,7 @@ def low_addresses(s):
         expect_opened(s, f"67-{name}", key_locker.cipher(KEY_128, PLAIN))
 
 
-def narrow_places(s):
+def address_size_places(s):
     """Places relative to EIP count from behind the prefix too; K2 and K3 are outside memory now, and not canonical faults."""
     h, h256 = handle(A, KEY_128), handle(A, KEY_256)
     k6 = "67 f3 44 0f 38 de 05 10 00 00 00"
@@ -600,13 +600,17 @@ def narrow_places(s):
             expect(f"67-{name}", (s.cpu.rflags & model.ZF, s.cpu.xmm(n)), (0, key_locker.cipher(key, PLAIN)))
 
 
-def narrow_registers(s):
-    """Before instructions without a place 67 only counts in the length; RIP keeps its 64 bits."""
+def address_size_loads(s):
+    """Before an instruction without a place 67 only counts in the length; RIP keeps its 64 bits."""
     xmm = {0: B.integrity, 1: B.encryption[:16], 2: B.encryption[16:]}
     for before, after in [(0, 6), (0xFFFF_FFFF, 0x1_0000_0005), (2**64 - 1, 5)]:
         name = f"67-load-rip-{before:x}"
         expect(name, s.step(name, "67" + LOAD, 1, cpu=record(xmm, rip=before)), 0)
         expect(name, (s.cpu.rip, model.machine_from(s.machine).keys[1]), (after, B))
+
+
+def address_size_encodes(s):
+    """The same for encodes, on the processor that has B from the loads."""
     for string, key in [(ENCODE_128, KEY_128), (ENCODE_256, KEY_256)]:
         name = f"67-encode-{8 * len(key)}"
         cpu = record({0: key[:16], 1: key[16:].ljust(16, b"\0")}, rax=2**64 - 1, rcx=2**32 + 6)
@@ -614,7 +618,7 @@ def narrow_registers(s):
         expect(name, (s.cpu.rip, s.cpu.register(0), bytes(s.cpu.bytes[: 32 + len(key)])), (6, 0, handle(B, key, 6)))
 
 
-def narrow_refusals(s):
+def address_size_refusals(s):
     """67 stands between LOCK and F3, once; then the refusals of the same string without it."""
     ts = CONTROL | model.CR0_TS
     for number, name, string, cpu in [
@@ -643,13 +647,14 @@ def narrow_refusals(s):
         expect(f"67-{name}", s.step(f"67-{name}", string, cpu=cpu), number)
 
 
-def address_sizes(s):
+def address_size(s):
     s.power_on("67-power-on", count=2)
     load(s, "67-load", A)
-    low_addresses(s)
-    narrow_places(s)
-    narrow_registers(s)
-    narrow_refusals(s)
+    address_size_wraps(s)
+    address_size_places(s)
+    address_size_loads(s)
+    address_size_encodes(s)
+    address_size_refusals(s)
 
 
 # ---- values: what registers, flags and records hold after a call, as the scope has it
@@ -1057,7 +1062,7 @@ def scenarios():
     examples(s)
     attacks(s)
     operands(s)
-    address_sizes(s)
+    address_size(s)
     values(s)
     refusals(s)
     return s
