@@ -4,7 +4,7 @@
 # make bench     measure the proved libraries against AES, key wrapping and the cryptography of whole calls in C, and the stack that each call needs
 # make examples  print the papers' examples, computed by the proved libraries
 # make test      all tests, as tests/run.sh has them
-# make test-decoder  compare the proved decoder with GNU objdump, on about a million strings
+# make test-decoder  compare the proved decoder with GNU objdump, on about two million strings
 # make test-machine  compare the proved machine with the model in Python, on 20,000 random calls
 # make test-host, test-valgrind, test-faults, test-stack  compare the C library with a model in C, and run it on a small stack; tests/host/rules.mk says how
 # make test-simulator  the simulator on traces that the model in Python checks, the installed files, and the examples for C

@@ -37,6 +37,7 @@ enum call call_of(const uint8_t *string, size_t len)
 {
     size_t i = 0;
     i += i < len && string[i] == 0xF0;
+    i += i < len && string[i] == 0x67;
     i += i < len && string[i] == 0xF3;
     i += i < len && string[i] >> 4 == 4;
     if (len < i + 4 || string[i] != 0x0F || string[i + 1] != 0x38)

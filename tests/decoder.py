@@ -5,7 +5,8 @@
                         disassemble has to write
   decoder.py --check    exit with 1 where one of these two files is something else
   decoder.py --objdump  run target/bin/disassemble, and exit with 1 where it differs from objdump on accepted strings, or from this decoder on
-                        others. Accepted strings: LOCK or none, REX 40 to 4F or none, with every opcode, ModRM and SIB byte that goes with them
+                        others. Accepted strings: LOCK or none, 67 or none, REX 40 to 4F or none, with every opcode, ModRM and SIB byte that goes with
+                        them
 
 It is written from the scope (see docs/DECISIONS.md) and from nothing under crates/.
 """
@@ -49,6 +50,12 @@ R64 = ["r" + name for name in LOW] + [f"r{n}" for n in range(8, 16)]
 R32 = ["e" + name for name in LOW] + [f"r{n}d" for n in range(8, 16)]
 XMM = [f"xmm{n}" for n in range(16)]
 
+# What a memory place names: registers and the next instruction's place. 67 is told by these names alone.
+AddressSize = namedtuple("AddressSize", "bits registers ip")
+
+BITS_64 = AddressSize(64, R64, "rip")
+BITS_32 = AddressSize(32, R32, "eip")
+
 
 class Refused(Exception):
     pass
@@ -71,6 +78,12 @@ class Reader:
         self.at += 1
         return byte
 
+    def accept(self, byte):
+        """Whether it is next; then it is taken."""
+        found = self.peek() == byte
+        self.at += found
+        return found
+
     def signed(self, size):
         return int.from_bytes([self.take() for _ in range(size)], "little", signed=True)
 
@@ -88,28 +101,33 @@ def memory_text(base, index, scale, displacement):
     return f"[{text}]"
 
 
-def memory(reader, mod, rm, rex):
+def absolute_text(size, displacement):
+    """Neither base nor index. With 67 the displacement, modulo 2^32, is the address, and eiz (no register, objdump's word) tells that it is there."""
+    return f"[eiz*1+{displacement % 2**32:#x}]" if size == BITS_32 else memory_text(None, None, 1, displacement)
+
+
+def memory(reader, mod, rm, rex, size):
     """SDM volume 2, tables 2-2, 2-3 and 2-5: without REX.B it is told whether there is a SIB byte, and a base; with REX.X, whether there is an index."""
     index, scale = None, 1
     if rm == 4:
         sib = reader.take()
         if (rex & 2, sib >> 3 & 7) != (0, 4):
-            index = R64[(rex & 2) << 2 | sib >> 3 & 7]
+            index = size.registers[(rex & 2) << 2 | sib >> 3 & 7]
         scale = 1 << (sib >> 6)
         rm = sib & 7
         without_base = None
     else:
-        without_base = "rip"
+        without_base = size.ip
     if (mod, rm) == (0, 5):
-        return memory_text(without_base, index, scale, reader.signed(4))
-    base = R64[(rex & 1) << 3 | rm]
+        displacement = reader.signed(4)
+        return memory_text(without_base, index, scale, displacement) if without_base or index else absolute_text(size, displacement)
+    base = size.registers[(rex & 1) << 3 | rm]
     return memory_text(base, index, scale, reader.signed([0, 1, 4][mod]))
 
 
 def instruction(reader):
-    lock = reader.peek() == 0xF0
-    if lock:
-        reader.take()
+    lock = reader.accept(0xF0)
+    size = BITS_32 if reader.accept(0x67) else BITS_64
     reader.take([0xF3])
     rex = reader.take() & 15 if 0x40 <= reader.peek() <= 0x4F else 0
     reader.take([0x0F])
@@ -129,7 +147,7 @@ def instruction(reader):
         "xmm rm": lambda: XMM[extended_rm],
         "r32 reg": lambda: R32[extended_reg],
         "r32 rm": lambda: R32[extended_rm],
-        "memory": lambda: memory(reader, mod, rm, rex),
+        "memory": lambda: memory(reader, mod, rm, rex, size),
     }
     operands = ", ".join(text[operand]() for operand in form.operands)
     return f"{'lock ' if lock else ''}{form.mnemonic} {operands}"
@@ -203,9 +221,9 @@ def operand_bytes(rng, form):
 
 def accepted(rng):
     rexes = [b""] + [bytes([0x40 + bits]) for bits in range(16)]
-    for lock, rex, form in product([b"", b"\xf0"], rexes, FORMS):
+    for lock, size, rex, form in product([b"", b"\xf0"], [b"", b"\x67"], rexes, FORMS):
         for operands in operand_bytes(rng, form):
-            yield lock + b"\xf3" + rex + bytes([0x0F, 0x38, form.opcode]) + operands
+            yield lock + size + b"\xf3" + rex + bytes([0x0F, 0x38, form.opcode]) + operands
 
 
 def altered(rng, string):
@@ -258,20 +276,22 @@ def signed_64(text):
 
 def same_memory(text):
     """A memory place of objdump as disassemble writes it."""
-    # no base and no index: ds:0x10 without brackets
+    # no base and no index: ds:0x10 without brackets, but with 67 [eiz*1+0x10]
     if text.startswith("ds:"):
-        return memory_text(None, None, 1, signed_64(text[3:]))
-    base, index, scale, number = None, None, 1, 0
+        return absolute_text(BITS_64, signed_64(text[3:]))
+    base, index, scale, number, size = None, None, 1, 0, BITS_64
     for sign, part in re.findall(r"([+-]?)([^+-]+)", text[1:-1]):
         if part.startswith("0x"):
             number = -signed_64(part) if sign == "-" else signed_64(part)
-        elif part.startswith("riz*"):
+        elif part.startswith(("riz*", "eiz*")):
             # a SIB byte without an index, where no index could be told from a place without SIB: riz times its scale
-            pass
+            size = BITS_32 if part.startswith("e") else BITS_64
         elif "*" in part:
             index, scale = part.split("*")
         else:
             base = part
+    if not base and not index:
+        return absolute_text(size, number)
     # a displacement of 0 that stands in the string is written by objdump, and left out by disassemble
     return memory_text(base, index, int(scale), number)
 
@@ -281,7 +301,8 @@ def same_text(text, size):
     # the address that a place relative to RIP comes to, as a comment
     text = re.sub(r" +# .*", "", text)
     # a REX byte of which a bit has no effect, or that has none set: rex or rex.WRXB before the mnemonic
-    words = [word for word in text.split() if not re.fullmatch(r"rex(\.W?R?X?B?)?", word)]
+    # 67 where no memory place tells of it: addr32
+    words = [word for word in text.split() if not re.fullmatch(r"rex(\.W?R?X?B?)?|addr32", word)]
     # operands without a blank between them; only memory places differ
     operands = words.pop().split(",")
     operands = [same_memory(o) if o.startswith(("[", "ds:")) else o for o in operands]

@@ -174,6 +174,8 @@ class Instruction:
     length: int
 
     memory = property(lambda self: self.operands[-1])
+    # the first name of a place with 67 is one of 32 bits: a register, eip, or eiz for none
+    address_size = property(lambda self: decoder.BITS_32 if re.match(r"\[(e|r[0-9]+d)", self.memory) else decoder.BITS_64)
     wide = property(lambda self: "wide" in self.name)
     use = property(lambda self: self.name.endswith("kl"))
     encode = property(lambda self: self.name.startswith("encodekey"))
@@ -198,21 +200,25 @@ def r32_number(operand):
     return decoder.R32.index(operand)
 
 
+def named_value(cpu, instruction, name):
+    """What a name in a memory place stands for, in 64 bits whatever the address size."""
+    size = instruction.address_size
+    if name == size.ip:
+        return cpu.rip + instruction.length
+    return 0 if name == "eiz" else cpu.register(size.registers.index(name))
+
+
 def effective_address(cpu, instruction):
-    """The address, and whether it is in the stack segment."""
+    """The address, which 67 takes modulo 2^32 when all is added, and whether it is in the stack segment."""
     address, stack = 0, False
     for sign, part in re.findall(r"([+-]?)([^+-]+)", instruction.memory[1:-1]):
         if part.startswith("0x"):
             address += int(sign + part, 16)
-        elif part == "rip":
-            address += cpu.rip + instruction.length
-        elif "*" in part:
-            index, scale = part.split("*")
-            address += cpu.register(decoder.R64.index(index)) * int(scale)
         else:
-            address += cpu.register(decoder.R64.index(part))
-            stack = part in ["rsp", "rbp"]
-    return address % WORD, stack
+            name, _, scale = part.partition("*")
+            address += named_value(cpu, instruction, name) * int(scale or 1)
+            stack |= part in ["rsp", "rbp", "esp", "ebp"]
+    return address % 2**instruction.address_size.bits, stack
 
 
 def canonical(address):

@@ -542,6 +542,121 @@ def operands(s):
     expect("encode-r9d-r8d", (bytes(s.cpu.bytes[:48]), s.cpu.register(9)), (handle(B, KEY_128, 6), 0))
 
 
+# ---- the prefix 67: addresses modulo 2^32, and where in a string it may stand
+
+
+def address_size_wraps(s):
+    """The handle is at 0, where these lead with 67; without it they are refused."""
+    h = handle(A, KEY_128)
+    for name, string, registers, without in [
+        ("rax-2-32", ENC_128, dict(rax=0x100000000), 14),
+        ("rax-2-63", ENC_128, dict(rax=0x8000000000000000), 12),
+        ("disp8", "f3 0f 38 dc 40 10", dict(rax=0xFFFFFFF0), 14),
+        ("disp8-negative", "f3 0f 38 dc 40 f0", dict(rax=0x8000_0000_0010), 12),
+        ("disp32-negative", "f3 0f 38 dc 80 00 00 00 80", dict(rax=0x1_8000_0000), 14),
+        ("disp32-below-0", "f3 0f 38 dc 80 00 00 00 80", dict(rax=0x8000_0000_8000_0000), 12),
+        ("index", "f3 0f 38 dc 04 08", dict(rax=0xFFFF_FFF8, rcx=0xFFFF_0000_0000_0008), 12),
+        ("index-scaled", "f3 0f 38 dc 04 c8", dict(rcx=0x2000_0000), 14),
+        ("index-alone", "f3 0f 38 dc 04 4d f0 ff ff ff", dict(rcx=0x7FFF_0000_0008, rbp=1), 12),
+        ("r13-r12", "f3 43 0f 38 dc 44 65 f8", dict(r13=0x0123_4567_FFFF_FFFE, r12=0x89AB_CDEF_0000_0005), 12),
+        ("rsp", "f3 0f 38 dc 04 24", dict(rsp=2**63), 13),
+        ("rbp", "f3 0f 38 dc 45 00", dict(rbp=2**47), 13),
+        ("rex-w", "f3 48 0f 38 dc 00", dict(rax=2**32), 14),
+        ("wide", WIDE_ENC_128, dict(rax=2**63), 12),
+    ]:
+        cpu = record({0: PLAIN}, **registers)
+        expect(f"67-{name}", s.step(f"67-{name}-without", string, cpu=cpu, memory=h), without)
+        expect(f"67-{name}", s.step(f"67-{name}", "67" + string, cpu=cpu, memory=h), 0)
+        expect_opened(s, f"67-{name}", key_locker.cipher(KEY_128, PLAIN))
+
+
+def address_size_places(s):
+    """Places relative to EIP count from behind the prefix too; K2 and K3 are outside memory now, and not canonical faults."""
+    h, h256 = handle(A, KEY_128), handle(A, KEY_256)
+    k6 = "67 f3 44 0f 38 de 05 10 00 00 00"
+    eip = "67 f3 0f 38 dc 05 1e 00 00 00"
+    absolute = "67 f3 0f 38 dc 04 25"
+    for number, name, string, registers, memory in [
+        (14, "K2-ffd0", "67" + ENC_128, dict(rax=0x7FFFFFFFFFD0), h),
+        (14, "K2-ffd1", "67" + ENC_128, dict(rax=0x7FFFFFFFFFD1), h),
+        (14, "K3-rsp", "67 f3 0f 38 dc 04 24", dict(rsp=0x7FFFFFFFFFD1), h),
+        (0, "K6-address-27", k6, {}, bytes(27) + h256),
+        (14, "K6-memory-90", k6, {}, bytes(26) + h256),
+        (0, "eip-2-32", eip, dict(rip=2**32), bytes(40) + h),
+        (0, "eip-2-63", eip, dict(rip=2**63), bytes(40) + h),
+        (0, "eip-wraps", eip, dict(rip=2**64 - 20), bytes(20) + h),
+        (0, "absolute", absolute + "08 00 00 00", dict(rsp=1, rbp=1), bytes(8) + h),
+        (14, "absolute-negative", absolute + "f0 ff ff ff", {}, h),
+        (0, "memory-49", "67" + ENC_128, dict(rax=0x1_0000_0001), bytes(1) + h),
+        (14, "memory-48", "67" + ENC_128, dict(rax=0x1_0000_0001), h),
+        (14, "rax-2-16", "67" + ENC_128, dict(rax=2**16), h),
+        (14, "rax-2-31", "67" + ENC_128, dict(rax=2**31), h),
+        (14, "over-2-32", "67" + ENC_128, dict(rax=2**32 - 8), bytes(64)),
+    ]:
+        cpu = record({0: PLAIN, 8: PLAIN}, **registers)
+        expect(f"67-{name}", s.step(f"67-{name}", string, cpu=cpu, memory=memory), number)
+        if number == 0:
+            key, n = (KEY_256, 8) if string == k6 else (KEY_128, 0)
+            expect(f"67-{name}", (s.cpu.rflags & model.ZF, s.cpu.xmm(n)), (0, key_locker.cipher(key, PLAIN)))
+
+
+def address_size_loads(s):
+    """Before an instruction without a place 67 only counts in the length; RIP keeps its 64 bits."""
+    xmm = {0: B.integrity, 1: B.encryption[:16], 2: B.encryption[16:]}
+    for before, after in [(0, 6), (0xFFFF_FFFF, 0x1_0000_0005), (2**64 - 1, 5)]:
+        name = f"67-load-rip-{before:x}"
+        expect(name, s.step(name, "67" + LOAD, 1, cpu=record(xmm, rip=before)), 0)
+        expect(name, (s.cpu.rip, model.machine_from(s.machine).keys[1]), (after, B))
+
+
+def address_size_encodes(s):
+    """The same for encodes, on the processor that has B from the loads."""
+    for string, key in [(ENCODE_128, KEY_128), (ENCODE_256, KEY_256)]:
+        name = f"67-encode-{8 * len(key)}"
+        cpu = record({0: key[:16], 1: key[16:].ljust(16, b"\0")}, rax=2**64 - 1, rcx=2**32 + 6)
+        expect(name, s.step(name, "67" + string, 1, cpu=cpu), 0)
+        expect(name, (s.cpu.rip, s.cpu.register(0), bytes(s.cpu.bytes[: 32 + len(key)])), (6, 0, handle(B, key, 6)))
+
+
+def address_size_refusals(s):
+    """67 stands between LOCK and F3, once; then the refusals of the same string without it."""
+    ts = CONTROL | model.CR0_TS
+    for number, name, string, cpu in [
+        (8, "before-lock", "67 f0" + ENC_128, record(control=0)),
+        (8, "before-lock-load", "67 f0" + LOAD, record()),
+        (8, "twice", "67 67" + ENC_128, record()),
+        (8, "twice-encode", "67 67" + ENCODE_128, record()),
+        (8, "twice-lock", "f0 67 67" + ENC_128, record()),
+        (8, "behind-f3", "f3 67 0f 38 dc 00", record()),
+        (8, "behind-f3-load", "f3 67 0f 38 dc d1", record()),
+        (8, "behind-rex", "f3 48 67 0f 38 dc 00", record()),
+        (8, "behind-rex-encode", "f3 41 67 0f 38 fa c1", record()),
+        (8, "without-f3", "67 0f 38 dc 00", record()),
+        (8, "byte-bad", "67 f3 0f 38 db", record()),
+        (9, "alone", "67", record(control=0)),
+        (9, "lock-alone", "f0 67", record(control=0)),
+        (9, "string-short", "67 f3 0f 38 dc", record(control=0)),
+        (10, "lock", "f0 67" + ENC_128, record(control=ts)),
+        (10, "lock-load", "f0 67" + LOAD, record(cpl=3)),
+        (10, "lock-encode", "f0 67" + ENCODE_128, record(rcx=8)),
+        (10, "cr4-kl", "67" + ENC_128, record(control=ts & ~model.CR4_KL)),
+        (11, "ts", "67" + ENC_128, record(control=ts)),
+        (12, "load-cpl-1", "67" + LOAD, record(cpl=1)),
+        (12, "encode-bit-31", "67" + ENCODE_256, record(rcx=2**31)),
+    ]:
+        expect(f"67-{name}", s.step(f"67-{name}", string, cpu=cpu), number)
+
+
+def address_size(s):
+    s.power_on("67-power-on", count=2)
+    load(s, "67-load", A)
+    address_size_wraps(s)
+    address_size_places(s)
+    address_size_loads(s)
+    address_size_encodes(s)
+    address_size_refusals(s)
+
+
 # ---- values: what registers, flags and records hold after a call, as the scope has it
 
 
@@ -947,6 +1062,7 @@ def scenarios():
     examples(s)
     attacks(s)
     operands(s)
+    address_size(s)
     values(s)
     refusals(s)
     return s
@@ -990,7 +1106,8 @@ def random_string(rng):
     operands = rng.choice(OPERANDS[form.mnemonic])
     rex = often(rng, lambda: b"", lambda: bytes([0x40 + rng.randrange(16)]), 0.5)
     lock = often(rng, lambda: b"", lambda: b"\xf0", 0.97)
-    string = lock + b"\xf3" + rex + bytes([0x0F, 0x38, form.opcode]) + operands
+    size = often(rng, lambda: b"", lambda: b"\x67", 0.6)
+    string = lock + size + b"\xf3" + rex + bytes([0x0F, 0x38, form.opcode]) + operands
     return often(rng, lambda: string + rng.randbytes(rng.choice([0, 0, 3])), lambda: decoder.altered(rng, string), 0.95)
 
 
@@ -1020,10 +1137,12 @@ def aim(rng, cpu, string, at):
         return
     off = at - model.effective_address(cpu, i)[0]
     base, *others = i.memory[1:-1].replace("-", "+").split("+")
-    if base == "rip":
+    size = i.address_size
+    if base == size.ip:
         cpu.rip += off
-    elif base in REGISTERS and not any(part.startswith(base + "*") for part in others):
-        n = REGISTERS.index(base)
+    elif base in size.registers and not any(part.startswith(base + "*") for part in others):
+        # with 67 the place is one modulo 2^32, and whatever is in bits 63:32 of the registers stays there
+        n = size.registers.index(base)
         cpu.set_register(n, cpu.register(n) + off)
 
 
@@ -1051,7 +1170,7 @@ def random_step(rng, s, name):
     before = rng.randrange(64)
     memory = rng.randbytes(before) + h + rng.randbytes(rng.choice([0, 0, 16, 40]))
     memory = often(rng, lambda: memory, lambda: memory[: rng.randrange(len(memory))], 0.95)
-    aim(rng, cpu, string, often(rng, lambda: before, lambda: rng.choice(EDGES) + rng.randrange(-1, 2)))
+    aim(rng, cpu, string, often(rng, lambda: before, lambda: rng.choice([*EDGES, 2**31 + before, 2**32 + before]) + rng.randrange(-1, 2)))
     record = bytes(cpu.bytes)
     record = often(rng, lambda: record, lambda: rng.choice([record[:407], record + b"\0", b""]), 0.99)
     data = rng.randbytes(often(rng, lambda: rng.choice([0, 48]), lambda: rng.randrange(60), 0.98))

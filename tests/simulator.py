@@ -99,6 +99,7 @@ def test_random(tmp):
             traces.RandomTrace(seed).run(150)
         summary = must(simulate(text.getvalue(), "--quiet"), 0, f"seed {seed}").stdout
         need(" 160 calls" in summary and int(re.search("(\\d+) expectations", summary)[1]) > 450, summary)
+        need(re.search("step 67 f30f38d.*\nexpect done\nexpect zf 0\n", text.getvalue()), f"seed {seed}: no handle opens by a string with 67")
 
 
 WORDS = """
@@ -135,9 +136,22 @@ cpu 0 encodekey128 00*16 restrict 8
 -- 12 #GP(0): restriction bits
 cpu 0 cpl 1 write IA32_COPY_LOCAL_TO_PLATFORM 1
 -- 12 #GP(0): CPL above 0, no backup registers
+cpu 0 cpl 3 step f0 67
+-- 9 the string ends inside an instruction
+cpu 0 cpl 3 step f0 67 f3 0f 38 dc c0
+-- 10 #UD: LOCK,
+cpu 0 cpl 3 step 67 f3 0f 38 dc d1
+-- 12 #GP(0): CPL above 0, EAX
+cpu 0 step 67 f3 0f 38 fa c1
+-- 12 #GP(0): restriction bits
 cpu 0 set rsp = 0x8000000000000000
 cpu 0 step f3 0f 38 dc 04 24
 -- 13 #SS(0): the address of a handle byte
+cpu 0 set rax = 0x8000000100000
+cpu 0 step 67 f3 0f 38 dc 00
+-- 14 #PF: a handle byte lies outside memory
+cpu 0 step 67 f3 0f 38 dc 04 24
+-- 0 done, ZF 1: RIP is 7 bytes on
 cpu 0 aesenc128kl at 1048575 00*16
 -- 14 #PF: a handle byte lies outside memory
 cpu 0 loadiwkey 11*48 random not-ready
@@ -466,6 +480,7 @@ def test_valgrind(tmp):
         ([tmp / "bad.trace"], 2),
         (["-q", ROOT / "tests/traces/refusals.trace"], 0),
         ([ROOT / "tests/traces/cpuid.trace"], 0),
+        ([ROOT / "tests/traces/address-size.trace"], 0),
         (["--help"], 0),
     ]:
         must(command(*valgrind, PROGRAM, *args), status, args)

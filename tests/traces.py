@@ -466,9 +466,16 @@ class RandomTrace:
         handle = self.handle(self.some(size, size, size, 128, 256))
         return f"aes{self.some('enc', 'dec')}{wide}{size}kl {handle} {self.hex(128 if wide else 16)}"
 
+    def again(self, processor, mnemonic):
+        """The same use, of the handle that is still in its place: by RBX, whose bits 63:32 lead elsewhere without 67."""
+        high = self.some(0, 1, 2**31, self.random.getrandbits(32))
+        self.statement(f"cpu {processor} set rbx = {high << 32 | HANDLE_PLACE:#x}")
+        opcode, reg = (0xD8, WIDE.index(mnemonic)) if mnemonic in WIDE else (OPCODES[mnemonic], 0)
+        return f"cpu {processor} step {self.some('', '67 ', '67 ')}{bytes([0xF3, 0x0F, 0x38, opcode, 8 * reg | 3]).hex()}"
+
     def raw(self):
         string = bytes([0xF3, 0x0F, 0x38, self.some(0xDC, 0xDD, 0xD8, 0xFA), self.random.randrange(256)]) + self.random.randbytes(self.random.randrange(6))
-        return f"step {string.hex()}"
+        return f"step {self.some('', '67 ')}{string.hex()}"
 
     def backup(self):
         return self.some("write 0xD91 1", "write 0xD92 1", "write 0xD92 0", "write 0xD91 3", "read 0x990", "read 0x991", "read 0xD91")
@@ -499,11 +506,14 @@ class RandomTrace:
 
     def run(self, count):
         self.begin()
+        opened = None
         for _ in range(count):
             if self.random.random() < 0.1:
                 self.statement(f"cpu {self.random.randrange(3)} set control = {self.some(3, 3, 3, 2)}")
-            text = self.call()
+            text = self.again(*opened) if opened else self.call()
             self.statement(text)
+            used = [word for word in text.split() if word in USES]
+            opened = (text.split()[1], used[0]) if used and self.trace.zf == 0 else None
             for expectation in list(self.expectations(text)):
                 self.statement(expectation)
 

@@ -1,6 +1,7 @@
 // Instructions as text, in Intel's syntax.
 use fips197::Direction;
 use fips197::KeySize;
+use isa::AddressSize;
 use isa::Base;
 use isa::Decoded;
 use isa::EncodeKey;
@@ -58,18 +59,41 @@ fn print_r32(n: u8) {
     print(b"d");
 }
 
-// ---- memory places: the parts that are there, with signs between them
+// ---- memory places: the parts that are there, with signs between them; 67 is told by 32-bit names
+
+fn is_32(size: AddressSize) -> bool {
+    match size {
+        AddressSize::Bits64 => false,
+        AddressSize::Bits32 => true,
+    }
+}
+
+fn print_general(n: u8, narrow: bool) {
+    if narrow {
+        print_r32(n);
+        return;
+    }
+    print_r64(n);
+}
+
+fn print_ip(narrow: bool) {
+    if narrow {
+        print(b"eip");
+        return;
+    }
+    print(b"rip");
+}
 
 // Answers whether there is a base.
-fn print_base(base: Base) -> bool {
+fn print_base(base: Base, narrow: bool) -> bool {
     match base {
         Base::None => false,
         Base::Rip => {
-            print(b"rip");
+            print_ip(narrow);
             true
         }
         Base::Register(n) => {
-            print_r64(n);
+            print_general(n, narrow);
             true
         }
     }
@@ -85,14 +109,14 @@ fn print_scale(scale: u8) {
 }
 
 // Answers whether a part stands before the displacement.
-fn print_index(index: Index, scale: u8, based: bool) -> bool {
+fn print_index(index: Index, scale: u8, based: bool, narrow: bool) -> bool {
     match index {
         Index::None => based,
         Index::Register(n) => {
             if based {
                 print(b"+");
             }
-            print_r64(n);
+            print_general(n, narrow);
             print_scale(scale);
             true
         }
@@ -116,13 +140,25 @@ fn print_displacement(d: u64, after: bool) {
     io::print_hex(STDOUT_FILENO, d, 1);
 }
 
+// With 67 and without registers: the address itself. eiz is objdump's name for no register; without it the place would look like one without 67.
+fn print_absolute(d: u64) {
+    print(b"eiz*1+0x");
+    io::print_hex(STDOUT_FILENO, d % 0x1_0000_0000, 1);
+}
+
 fn print_memory(m: MemoryPlace) {
     let base = m.base;
     let index = m.index;
+    let size = m.address_size;
+    let narrow = is_32(size);
     print(b"[");
-    let based = print_base(base);
-    let after = print_index(index, m.scale, based);
-    print_displacement(m.displacement, after);
+    let based = print_base(base, narrow);
+    let after = print_index(index, m.scale, based, narrow);
+    if narrow & !after {
+        print_absolute(m.displacement);
+    } else {
+        print_displacement(m.displacement, after);
+    }
     print(b"]");
 }
 
