@@ -29,7 +29,7 @@
 #include <stddef.h>
 #include <stdint.h>
 
-#define KEYLOCKER_VERSION "1.1.0"
+#define KEYLOCKER_VERSION "1.2.0"
 
 /* bytes of stack that a call needs at most */
 #define KEYLOCKER_STACK_SIZE 8192
