@@ -1,13 +1,12 @@
--- What the address-size prefix makes of an address, and of an instruction.
+-- What the address size makes of an address.
 -- Assumes nothing.
-use mathlib.Core.Path.{_≡_, refl, sym, ap, ap₂, _∙_}
-use mathlib.Core.Bool.{Bool, false, not}
+use mathlib.Core.Path.{_≡_, refl, sym, ap}
+use mathlib.Core.Bool.{false, not}
 use Prim.Native.Nat.{ℕ, _+_, _*_, _^_, _%_, _≤_, _<_}
 use native.Mathlib.Nat.{mod-mod}
 use native.Mathlib.Omega.{arith}
 use Rattle.isa.specs.Address.{addressBits, baseValue, effectiveAddress, indexValue, nextRip, segmentOf}
 use Rattle.isa.specs.Ranges.{canonical, someNotCanonical}
-use Rattle.isa.specs.declared.Address.{Address}
 use Rattle.isa.specs.declared.AddressSize.{AddressSize}
 use Rattle.isa.specs.declared.AddressSize.the-variants.{Bits64, Bits32}
 use Rattle.isa.specs.declared.Base.{Base}
@@ -59,7 +58,7 @@ pub canonical-32 : (a n : ℕ) → a < 2 ^ 32 → n ≤ 64 → someNotCanonical 
 unfolding someNotCanonical
 canonical-32 a n h l = any-false (λ b. not (canonical b)) n a (λ i k. ap not (canonical-low ((a + i) % 2 ^ 64) (omega arith)))
 
--- ---- Intel's own way of saying it: the prefix takes the low halves of registers and RIP
+-- ---- the low halves of registers and RIP decide
 
 module _ (registers : ℕ → ℕ) (rip bytes : ℕ) where
   abbrev low : ℕ → ℕ
@@ -77,7 +76,7 @@ module _ (registers : ℕ → ℕ) (rip bytes : ℕ) where
   sum-alike : (a b c d n : ℕ) → a % 2 ^ 32 ≡ b % 2 ^ 32 → c % 2 ^ 32 ≡ d % 2 ^ 32 → (a + c + n) % 2 ^ 32 ≡ (b + d + n) % 2 ^ 32
   sum-alike a b c d n h k = omega arith
 
-  -- SDM volume 1, 3.3.7: with 32-bit addresses the high halves of registers and RIP do not count
+  -- an address of 32 bits is what 32-bit registers and EIP give
   pub low-halves : (p : MemoryPlace) → effectiveAddress registers rip bytes (sized Bits32 p) ≡ effectiveAddress low (rip % 2 ^ 32) bytes (sized Bits32 p)
   unfolding effectiveAddress
   low-halves p =
