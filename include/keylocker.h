@@ -164,7 +164,8 @@ extern "C" {
 uint32_t keylocker_power_on(uint8_t *machine, size_t machine_len, uint8_t count, uint8_t features);
 
 /* Executes the one instruction that the string begins with, on a processor; bytes behind it are not looked at. The string is
- * F0 (LOCK, which gives #UD) or nothing, F3, a REX byte or nothing, 0F 38, opcode, ModRM, SIB and displacement as Intel has them in 64-bit mode:
+ * F0 (LOCK, which gives #UD) or nothing, 67 or nothing, F3, a REX byte or nothing, 0F 38, opcode, ModRM, SIB and displacement as Intel has them in 64-bit
+ * mode; with 67 the address of a handle is taken modulo 2^32, and registers as operands are what they are without it:
  *   DC, DD, DE, DF with memory   AESENC128KL, AESDEC128KL, AESENC256KL, AESDEC256KL; reg is the block, the handle is in memory
  *   D8 /0 to /3 with memory      AESENCWIDE128KL, AESDECWIDE128KL, AESENCWIDE256KL, AESDECWIDE256KL on XMM0 to XMM7
  *   DC with a register           LOADIWKEY: reg SRC1 (encryption key, high half), r/m SRC2 (low half), XMM0 the integrity key, EAX as above
