@@ -30,6 +30,7 @@ struct place {
 struct instruction {
     enum form form;
     bool lock;
+    bool address_32; /* the address-size prefix, 67 */
     unsigned reg, rm;   /* registers: the block or SRC1 or destination; SRC2 or source */
     struct place place; /* of a use */
     unsigned length;
