@@ -116,7 +116,7 @@ static uint64_t tested_address(const struct instruction *instruction, const stru
 }
 
 /* All bytes are tested for being canonical before any is tested against memory (K2). */
-static uint32_t handle_refusal(const struct cpu *cpu, size_t memory_length, const struct instruction *instruction)
+uint32_t handle_refusal(const struct cpu *cpu, size_t memory_length, const struct instruction *instruction)
 {
     uint64_t address = effective_address(instruction, cpu), tested = tested_address(instruction, cpu);
     size_t length = handle_length(instruction->form);

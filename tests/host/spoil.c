@@ -561,12 +561,12 @@ static uint64_t beyond(uint64_t place, unsigned bits)
     return place % MEMORY_LIMIT + (UINT64_C(1) << (20 + below(bits - 20)));
 }
 
-/* as below, for an address of 32 bits: often the last place from which a handle does not run over 2^32, and those behind it */
+/* as below, for an address of 32 bits: often the last place from which a handle does not run over 2^32, and places behind it */
 static uint64_t outside_start_32(uint64_t place, size_t read, size_t memory)
 {
     switch (below(5)) {
     case 0:
-        return UINT64_C(0x100000000) - read + below(2);
+        return UINT64_C(0x100000000) - read;
     case 1:
         return UINT64_C(0x100000000) - 1 - below(2 * read);
     case 2:
