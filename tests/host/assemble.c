@@ -58,7 +58,7 @@ static unsigned but_not(unsigned bound, unsigned low_bits)
     return number;
 }
 
-/* base, index, scale and mod of a random operand, as numbers of registers */
+/* base, index, scale and mod of a random operand, as numbers of registers; often those of the stack segment, and those that share their lower bits */
 static void choose_operand(struct operand *o, unsigned *mod)
 {
     o->shape = (enum operand_shape)below(SHAPES);
@@ -75,13 +75,13 @@ static void choose_operand(struct operand *o, unsigned *mod)
             o->base = but_not(16, 4);
         while (*mod == 0 && (o->base & 7) == 5);
         if (*mod != 0 && one_in(3))
-            o->base = RBP;
+            o->base = one_in(3) ? R13 : RBP;
         break;
     case SHAPE_SIB_BASE:
     case SHAPE_SIB_BASE_INDEX:
     case SHAPE_SIB_BASE_TWICE:
         *mod = (unsigned)below(3);
-        o->base = one_in(3) ? RSP : *mod == 0 ? but_not(16, 5) : (unsigned)below(16);
+        o->base = one_in(3) ? RSP : one_in(8) ? R12 : *mod == 0 ? but_not(16, 5) : (unsigned)below(16);
         if (o->shape == SHAPE_SIB_BASE_TWICE && o->base == RSP)
             o->base = RBX;
         do
@@ -214,10 +214,29 @@ bool aim(struct trial *t, uint64_t target)
     return reached;
 }
 
-void put_lock(struct trial *t)
+static void put_first(struct trial *t, uint8_t prefix)
 {
     memmove(t->string_room + 1, t->string_room, t->call.string.length++);
-    t->string_room[0] = 0xF0;
+    t->string_room[0] = prefix;
     t->operand.displacement_at++;
     t->operand.length++;
+}
+
+void put_lock(struct trial *t)
+{
+    put_first(t, 0xF0);
+}
+
+void put_address_size(struct trial *t)
+{
+    put_first(t, 0x67);
+    t->operand.address_32 = true;
+}
+
+void drop_address_size(struct trial *t)
+{
+    memmove(t->string_room, t->string_room + 1, --t->call.string.length);
+    t->operand.displacement_at--;
+    t->operand.length--;
+    t->operand.address_32 = false;
 }

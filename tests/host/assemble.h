@@ -16,4 +16,8 @@ bool aim(struct trial *t, uint64_t target);
 /* F0 before the instruction and its 67; the address of a RIP-relative operand moves with it */
 void put_lock(struct trial *t);
 
+/* 67 before an instruction that has no prefix before F3, and away again; the operand has to be aimed once more */
+void put_address_size(struct trial *t);
+void drop_address_size(struct trial *t);
+
 #endif

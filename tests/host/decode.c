@@ -39,6 +39,14 @@ static bool skips(struct reader *reader, uint8_t byte)
     return found;
 }
 
+static bool skips_rex(struct reader *reader, uint8_t *rex)
+{
+    bool found = reader->at < reader->string.length && reader->string.bytes[reader->at] >> 4 == 4;
+    if (found)
+        *rex = reader->string.bytes[reader->at++] & 0x0F;
+    return found;
+}
+
 /* optional F0, optional 67 */
 static uint32_t read_legacy_prefixes(struct reader *reader, struct prefixes *prefixes)
 {
@@ -58,24 +66,17 @@ static uint32_t read_legacy_prefixes(struct reader *reader, struct prefixes *pre
 /* these, F3, at most one REX byte, 0F 38 */
 static uint32_t read_prefixes(struct reader *reader, struct prefixes *prefixes)
 {
-    uint8_t byte;
     uint32_t refusal = read_legacy_prefixes(reader, prefixes);
     if (refusal || (refusal = next_is(reader, REP)))
         return refusal;
     if (FAULT(ADDRESS_SIZE_BEHIND_F3))
         prefixes->address_32 |= skips(reader, ADDRESS_SIZE);
-
     prefixes->rex = 0;
-    refusal = next(reader, &byte);
-    for (bool more = true; more && !refusal && byte >> 4 == 4; more = FAULT(TWO_REX)) {
-        prefixes->rex = byte & 0x0F;
+    for (bool more = true; more && skips_rex(reader, &prefixes->rex); more = FAULT(TWO_REX))
         if (FAULT(ADDRESS_SIZE_BEHIND_REX))
             prefixes->address_32 |= skips(reader, ADDRESS_SIZE);
-        refusal = next(reader, &byte);
-    }
-    if (refusal || byte != 0x0F)
-        return refusal ? refusal : BAD_BYTE;
-    return next_is(reader, 0x38);
+    refusal = next_is(reader, 0x0F);
+    return refusal ? refusal : next_is(reader, 0x38);
 }
 
 /* which instruction an opcode and the fields of its ModRM byte are; false if none */

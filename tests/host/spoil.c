@@ -555,66 +555,55 @@ static uint64_t uncanonical_start(size_t read)
     }
 }
 
-/* the handle's own place with one address bit more, so that an address of too few bits finds it; memory ends below bit 20 */
-static uint64_t beyond(uint64_t place, unsigned bits)
-{
-    return place % MEMORY_LIMIT + (UINT64_C(1) << (20 + below(bits - 20)));
-}
-
 /* as below, for an address of 32 bits: often the last place from which a handle does not run over 2^32, and places behind it */
-static uint64_t outside_start_32(uint64_t place, size_t read, size_t memory)
+static uint64_t outside_start_32(size_t read, size_t memory)
 {
-    switch (below(5)) {
+    switch (below(4)) {
     case 0:
         return UINT64_C(0x100000000) - read;
     case 1:
         return UINT64_C(0x100000000) - 1 - below(2 * read);
-    case 2:
-        return beyond(place, 32);
     default:
         return (uint32_t)(memory - read + 1 + below(read + 20));
     }
 }
 
 /* a canonical start from which some byte is outside memory; the last one below the edge, and the top of the number range, often */
-static uint64_t outside_start(uint64_t place, size_t read, size_t memory)
+static uint64_t outside_start(size_t read, size_t memory)
 {
-    switch (below(6)) {
+    switch (below(5)) {
     case 0:
         return UINT64_C(0x800000000000) - read;
     case 1:
         return UINT64_C(0xFFFF800000000000) + below(100);
     case 2:
         return 0 - (uint64_t)(1 + below(2 * read));
-    case 3:
-        return beyond(place, 47);
     default:
         return memory - read + 1 + below(read + 20);
     }
 }
 
+/* without 67, behind which every address is canonical */
 static bool aim_uncanonical(struct trial *t)
 {
+    bool sized = t->operand.address_32;
+    if (sized)
+        drop_address_size(t);
     for (int tries = 0; tries < 20; tries++)
         if (aim(t, uncanonical_start(handle_length(t->form))))
             return true;
+    if (sized)
+        put_address_size(t);
     return false;
 }
 
 static bool aim_outside(struct trial *t)
 {
     size_t read = handle_length(t->form), memory = t->call.memory.length;
-    uint64_t place = t->target;
     for (int tries = 0; tries < 20; tries++)
-        if (aim(t, t->operand.address_32 ? outside_start_32(place, read, memory) : outside_start(place, read, memory)))
+        if (aim(t, t->operand.address_32 ? outside_start_32(read, memory) : outside_start(read, memory)))
             return true;
     return false;
-}
-
-/* with 67 every address is canonical */
-static bool can_be_uncanonical(const struct trial *t)
-{
-    return is_step(t) && is_use(t->form) && !t->operand.address_32;
 }
 
 static bool is_stack_operand(const struct trial *t)
@@ -624,17 +613,30 @@ static bool is_stack_operand(const struct trial *t)
 
 static bool uncanonical(struct trial *t)
 {
-    return can_be_uncanonical(t) && !is_stack_operand(t) && aim_uncanonical(t);
+    return is_step(t) && is_use(t->form) && !is_stack_operand(t) && aim_uncanonical(t);
 }
 
 static bool uncanonical_stack(struct trial *t)
 {
-    return can_be_uncanonical(t) && is_stack_operand(t) && aim_uncanonical(t);
+    return is_step(t) && is_use(t->form) && is_stack_operand(t) && aim_uncanonical(t);
 }
 
 static bool outside_memory(struct trial *t)
 {
     return is_step(t) && is_use(t->form) && aim_outside(t);
+}
+
+/* The handle's own place and one bit more, often the highest that can be set: an address of too few bits finds the handle. Memory ends below bit 20. */
+static bool one_bit_more(struct trial *t)
+{
+    if (!is_step(t) || !is_use(t->form))
+        return false;
+    unsigned bits = t->operand.address_32 ? 32 : 47;
+    uint64_t place = t->target % MEMORY_LIMIT;
+    for (int tries = 0; tries < 20; tries++)
+        if (aim(t, place + (UINT64_C(1) << (one_in(2) ? bits - 1 : 20 + below(bits - 20)))))
+            return true;
+    return false;
 }
 
 static bool memory_ends(struct trial *t)
@@ -762,6 +764,7 @@ const struct spoil spoils[] = {
     {R12_GP, "backup register bits 63:1 written", written_bits},
     {R13_SS, "a handle byte not canonical in the stack segment", uncanonical_stack},
     {R14_PF, "a handle outside memory", outside_memory},
+    {R14_PF, "a handle's place and one address bit more", one_bit_more},
     {R14_PF, "memory ends inside a handle", memory_ends},
 };
 const int spoil_count = sizeof spoils / sizeof *spoils;
