@@ -16,7 +16,10 @@ enum { WIDE_BLOCKS = 8, HANDLES = 64, PROCESSORS = 16 };
 
 // ---- what is called
 
-enum op { ENCODE, ENCRYPT, DECRYPT, ENCRYPT_WIDE, DECRYPT_WIDE, LOAD, WRITE, READ, CPUID, BAD_STRING, ILLEGAL, OPS };
+// ENCRYPT_32 is ENCRYPT with the address-size prefix, 67.
+enum op {
+    ENCODE, ENCRYPT, DECRYPT, ENCRYPT_WIDE, DECRYPT_WIDE, LOAD, WRITE, READ, CPUID, BAD_STRING, ILLEGAL, ENCRYPT_32, OPS
+};
 
 static size_t blocks_of(int op) { return op == ENCRYPT_WIDE || op == DECRYPT_WIDE ? WIDE_BLOCKS : 1; }
 static bool is_decryption(int op) { return op == DECRYPT || op == DECRYPT_WIDE; }
@@ -28,6 +31,7 @@ static const uint8_t strings[OPS][2][2] = {
     [DECRYPT] = {{0xdd, 0x00}, {0xdf, 0x00}},      [ENCRYPT_WIDE] = {{0xd8, 0x00}, {0xd8, 0x10}},
     [DECRYPT_WIDE] = {{0xd8, 0x08}, {0xd8, 0x18}}, [LOAD] = {{0xdc, 0xca}, {0xdc, 0xca}},
     [BAD_STRING] = {{0xd8, 0x20}, {0xd8, 0x20}},   [ILLEGAL] = {{0xdc, 0x00}, {0xde, 0x00}},
+    [ENCRYPT_32] = {{0xdc, 0x00}, {0xde, 0x00}},
 };
 
 static uint8_t machine[KEYLOCKER_MACHINE_SIZE];
@@ -46,6 +50,12 @@ static void put64(uint8_t *p, uint64_t x)
 
 static uint8_t *reg(int n) { return cpu + KEYLOCKER_CPU_REGISTERS + 8 * n; }
 
+// RAX for a use of a handle; 67 drops its upper half.
+static void point_at(int op, size_t handle)
+{
+    put64(reg(0), HANDLE_BYTES * handle + (op == ENCRYPT_32 ? 0x89abcdef00000000 : 0));
+}
+
 static void require(bool holds, const char *what)
 {
     if (holds)
@@ -56,9 +66,10 @@ static void require(bool holds, const char *what)
 
 static uint32_t step(int op, uint8_t size, uint8_t processor)
 {
-    uint8_t string[5] = {0xf3, 0x0f, 0x38, strings[op][size][0], strings[op][size][1]};
+    uint8_t string[6] = {0x67, 0xf3, 0x0f, 0x38, strings[op][size][0], strings[op][size][1]};
+    size_t first = op == ENCRYPT_32 ? 0 : 1;
     return keylocker_step(machine, sizeof machine, processor, cpu, sizeof cpu, memory, sizeof memory, random_data,
-                          sizeof random_data, string, sizeof string);
+                          sizeof random_data, string + first, sizeof string - first);
 }
 
 // A machine with its IWKey on every processor.
@@ -124,7 +135,7 @@ static void check_use(int op, uint8_t size, int handle)
     size_t len = blocks_of(op) * BLOCK_BYTES;
     fill_random(data, sizeof data);
     memcpy(cpu, data, sizeof data);
-    put64(reg(0), (uint64_t)(HANDLE_BYTES * handle));
+    point_at(op, (size_t)handle);
     require(step(op, size, 0) == KEYLOCKER_DONE, "a use was refused");
     for (int i = BYTES; i < CORES; i++) {
         memcpy(expected, data, sizeof data);
@@ -155,9 +166,11 @@ static void check_all(void)
             check_encode(size, i);
             for (int op = ENCRYPT; op <= DECRYPT_WIDE; op++)
                 check_use(op, size, i);
+            check_use(ENCRYPT_32, size, i);
         }
     }
-    puts("The library's ten forms of encode and use agree with both cores' cryptography on random keys and blocks.\n");
+    puts("The library's ten forms of encode and use, and uses behind 67, agree with both cores' cryptography on random "
+         "keys and blocks.\n");
 }
 
 // ---- the measurement
@@ -168,7 +181,7 @@ static void next_operand(int op, size_t i)
     if (op == ENCODE)
         memcpy(cpu, keys[i % HANDLES], KEY_BYTES);
     else
-        put64(reg(0), HANDLE_BYTES * (i % HANDLES));
+        point_at(op, i % HANDLES);
 }
 
 static uint8_t processor_of(const struct row *row, size_t i) { return row->count == 1 ? 0 : (uint8_t)(i % 2); }
@@ -179,7 +192,7 @@ static uint32_t repeat_steps(const struct row *row, size_t reps)
     uint32_t answers = 0;
     put64(reg(0), 0);
     for (size_t i = 0; i < reps; i++) {
-        if (row->op == ENCODE || is_use(row->op) || row->op == ILLEGAL)
+        if (row->op == ENCODE || is_use(row->op) || row->op == ILLEGAL || row->op == ENCRYPT_32)
             next_operand(row->op, i);
         answers |= step(row->op, row->size, processor_of(row, i));
     }
@@ -262,6 +275,7 @@ static const char *label_of(const struct row *row)
         [WRITE] = "write 0xD92",           [READ] = "read 0x990",
         [CPUID] = "CPUID leaf 0x19",       [BAD_STRING] = "a string refused",
         [ILLEGAL] = "AESENC%dKL, illegal handle",
+        [ENCRYPT_32] = "AESENC%dKL behind 67",
     };
     char form[64];
     snprintf(form, sizeof form, "%s%s", names[row->op], row->count == 1 ? ", 1 processor" : "");
@@ -294,6 +308,7 @@ int main(void)
         {.op = LOAD, .alone = true},       {.op = WRITE, .alone = true},
         {.op = READ, .alone = true},       {.op = CPUID, .alone = true},
         {.op = BAD_STRING, .alone = true}, {.op = BAD_STRING, .alone = true, .count = 1},
+        {.op = ENCRYPT_32, .alone = true},
     };
     size_t count = sizeof rows / sizeof *rows, other = sizeof others / sizeof *others;
 

@@ -22,6 +22,8 @@ static void begin(struct trial *t, enum form form, unsigned r, unsigned x, unsig
     t->form = form;
     t->meant_string = true;
     t->call.string.length = 0;
+    if (t->operand.address_32)
+        put(t, 0x67);
     put(t, 0xF3);
     if (bits || one_in(8))
         put(t, 0x40 | bits);
@@ -40,9 +42,10 @@ static void put_tail(struct trial *t)
 
 void assemble_registers(struct trial *t, enum form form, unsigned reg, unsigned rm)
 {
+    t->operand = (struct operand){.address_32 = one_in(3)};
     begin(t, form, reg >> 3, one_in(3), rm >> 3);
     put(t, 0xC0 | (reg & 7) << 3 | (rm & 7));
-    t->operand = (struct operand){.length = t->call.string.length};
+    t->operand.length = t->call.string.length;
     put_tail(t);
 }
 
@@ -55,10 +58,11 @@ static unsigned but_not(unsigned bound, unsigned low_bits)
     return number;
 }
 
-/* base, index, scale and mod of a random operand, as numbers of registers */
+/* base, index, scale and mod of a random operand, as numbers of registers; often those of the stack segment, and those that share their lower bits */
 static void choose_operand(struct operand *o, unsigned *mod)
 {
     o->shape = (enum operand_shape)below(SHAPES);
+    o->address_32 = one_in(3);
     o->base = o->index = NO_REGISTER;
     o->scale = (unsigned)below(4);
     *mod = 0;
@@ -71,13 +75,13 @@ static void choose_operand(struct operand *o, unsigned *mod)
             o->base = but_not(16, 4);
         while (*mod == 0 && (o->base & 7) == 5);
         if (*mod != 0 && one_in(3))
-            o->base = RBP;
+            o->base = one_in(3) ? R13 : RBP;
         break;
     case SHAPE_SIB_BASE:
     case SHAPE_SIB_BASE_INDEX:
     case SHAPE_SIB_BASE_TWICE:
         *mod = (unsigned)below(3);
-        o->base = one_in(3) ? RSP : *mod == 0 ? but_not(16, 5) : (unsigned)below(16);
+        o->base = one_in(3) ? RSP : one_in(8) ? R12 : *mod == 0 ? but_not(16, 5) : (unsigned)below(16);
         if (o->shape == SHAPE_SIB_BASE_TWICE && o->base == RSP)
             o->base = RBX;
         do
@@ -169,20 +173,34 @@ static bool aim_index(struct cpu *cpu, const struct operand *o, uint64_t target,
     return true;
 }
 
+/* What 67 drops of the sum, so that only its lower half is the address: nothing, a carry, a borrow, what makes the sum not canonical or just canonical,
+ * or any bits. */
+static uint64_t dropped_bits(void)
+{
+    static const uint32_t edges[] = {0, 1, UINT32_MAX, 2, 0x7FFF, 0x8000, 0xFFFF7FFF, 0xFFFF8000, 0x80000000};
+    return (uint64_t)(one_in(2) ? edges[below(sizeof edges / sizeof *edges)] : (uint32_t)any64()) << 32;
+}
+
+/* a displacement alone: sign-extended, so that without 67 it reaches the lowest and the highest 2 GiB */
+static bool aim_displacement(const struct operand *o, uint64_t target, int64_t *displacement)
+{
+    *displacement = o->address_32 ? (int32_t)target : (int64_t)target;
+    return *displacement >= INT32_MIN && *displacement <= INT32_MAX;
+}
+
 bool aim(struct trial *t, uint64_t target)
 {
     const struct operand *o = &t->operand;
     struct cpu *cpu = trial_cpu(t);
     int64_t displacement = any_displacement(o->displacement_bytes);
-    uint64_t rest = target - (uint64_t)displacement;
+    uint64_t sum = target + (o->address_32 ? dropped_bits() : 0), rest = sum - (uint64_t)displacement;
     bool reached = true;
     if (o->shape == SHAPE_RIP_RELATIVE) {
         store64(cpu->rip, rest - o->length);
     } else if (o->shape == SHAPE_SIB_NEITHER) {
-        displacement = (int64_t)target;
-        reached = displacement >= INT32_MIN && displacement <= INT32_MAX;
+        reached = aim_displacement(o, target, &displacement);
     } else if (o->shape == SHAPE_SIB_INDEX) {
-        reached = aim_index(cpu, o, target, &displacement);
+        reached = aim_index(cpu, o, sum, &displacement);
     } else if (o->base == o->index) {
         reached = aim_twice(cpu, o, rest);
     } else {
@@ -196,10 +214,29 @@ bool aim(struct trial *t, uint64_t target)
     return reached;
 }
 
-void put_lock(struct trial *t)
+static void put_first(struct trial *t, uint8_t prefix)
 {
     memmove(t->string_room + 1, t->string_room, t->call.string.length++);
-    t->string_room[0] = 0xF0;
+    t->string_room[0] = prefix;
     t->operand.displacement_at++;
     t->operand.length++;
+}
+
+void put_lock(struct trial *t)
+{
+    put_first(t, 0xF0);
+}
+
+void put_address_size(struct trial *t)
+{
+    put_first(t, 0x67);
+    t->operand.address_32 = true;
+}
+
+void drop_address_size(struct trial *t)
+{
+    memmove(t->string_room, t->string_room + 1, --t->call.string.length);
+    t->operand.displacement_at--;
+    t->operand.length--;
+    t->operand.address_32 = false;
 }

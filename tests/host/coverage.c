@@ -77,6 +77,22 @@
     X(WIDE_REX_R, "wide uses with REX.R")                                             \
     X(LAST_CANONICAL, "handles that end with the last byte of the lower half")        \
     X(OVER_THE_TOP, "handles that run over the top of the number range")              \
+    X(SIZE_TRUNCATED, "67: uses that only the truncation saves from a refusal")       \
+    X(SIZE_OPENED, "67: such uses whose handle opened")                               \
+    X(SIZE_REX_W, "67: such uses with REX.W whose handle opened")                     \
+    X(SIZE_NOT_GP, "67: handles opened that give #GP without it")                     \
+    X(SIZE_NOT_SS, "67: handles opened that give #SS without it")                     \
+    X(SIZE_NOT_PF, "67: handles opened that give #PF without it")                     \
+    X(SIZE_CARRY, "67: handles opened by a sum that carries out of bit 31")           \
+    X(SIZE_SCALED, "67: handles opened by an index that its scale moves out of 31:0") \
+    X(SIZE_ENDS_MEMORY, "67: handles opened that end with memory")                    \
+    X(SIZE_PAST_MEMORY, "67: handles that end one byte behind memory")                \
+    X(SIZE_BELOW_0, "67: negative displacements across 0")                            \
+    X(SIZE_TO_TOP, "67: handles that end at 2^32")                                    \
+    X(SIZE_OVER_TOP, "67: handles that run over 2^32")                                \
+    X(SIZE_ALONE, "67 alone")                                                         \
+    X(LOCK_SIZE_ALONE, "F0 67 alone")                                                 \
+    X(LOCK_SIZE, "F0 67 and an instruction")                                          \
     X(SAME_NAME_ALLOWED, "demand 3: same name, allowed")                              \
     X(SAME_NAME_SIZE, "demand 3: same name, key size forbids")                        \
     X(SAME_NAME_PRIVILEGE, "demand 3: same name, privilege forbids")                  \
@@ -113,11 +129,13 @@ static const char *const probed_texts[] = {
 #undef PROBED
 };
 static const char *const feature_texts[] = {"KL", "firmware", "wide forms", "backup registers", "NoBackup", "random source"};
-static const char *const use_texts[] = {"AESENC128KL",     "AESDEC128KL",     "AESENC256KL",     "AESDEC256KL",
-                                        "AESENCWIDE128KL", "AESDECWIDE128KL", "AESENCWIDE256KL", "AESDECWIDE256KL"};
+static const char *const form_texts[] = {"AESENC128KL",     "AESDEC128KL",     "AESENC256KL",     "AESDEC256KL",
+                                         "AESENCWIDE128KL", "AESDECWIDE128KL", "AESENCWIDE256KL", "AESDECWIDE256KL",
+                                         "LOADIWKEY",       "ENCODEKEY128",    "ENCODEKEY256"};
 
 enum { SPOILS_MOST = 128 };
 static unsigned long numbers[CALL_KINDS][NUMBERS], events[EVENT_COUNT], uses[USE_FORMS][2], origins[ORIGINS][2], shapes[SHAPES][2];
+static unsigned long sizes[FORMS][2], sized_shapes[SHAPES][2]; /* forms without 67 and with it; operands behind 67 */
 static unsigned long probed_exceptions[PROBED_COUNT][2], leaves[F_ALL + 1][2]; /* of leaf 0x19 by features and CR4.KL */
 static unsigned long spoiled_alone[SPOILS_MOST], spoiled_first[SPOILS_MOST], orders[NUMBERS][NUMBERS];
 
@@ -174,7 +192,50 @@ static void cover_encode(const struct cpu *before, const struct instruction *ins
     note(instruction->reg == instruction->rm, EVENT_ENCODE_ALIKE);
 }
 
-static void cover_use(const struct trial *t, const struct cpu *after, const struct instruction *instruction)
+/* a base alone, whose lower half and a displacement that is not negative come to 2^32 or more */
+static bool carries(const struct place *place, const struct cpu *cpu)
+{
+    if (place->base == NO_REGISTER || place->index != NO_REGISTER || place->displacement < 0)
+        return false;
+    return (load32(cpu->registers[place->base]) + (uint64_t)place->displacement) >> 32;
+}
+
+/* a base alone, whose lower half and a displacement come to less than 0 */
+static bool borrows(const struct place *place, const struct cpu *cpu)
+{
+    if (place->base == NO_REGISTER || place->index != NO_REGISTER)
+        return false;
+    return load32(cpu->registers[place->base]) + place->displacement < 0;
+}
+
+static bool scales_out(const struct place *place, const struct cpu *cpu)
+{
+    return place->index != NO_REGISTER && (uint64_t)load32(cpu->registers[place->index]) << place->scale >> 32;
+}
+
+/* A use behind 67 that is done: what it would be refused for if the sum were the address. Its string begins with 67 F3. */
+static void cover_sized_use(const struct trial *t, const struct cpu *before, const struct instruction *instruction, bool failed)
+{
+    struct instruction whole = *instruction;
+    whole.address_32 = false;
+    uint32_t without = handle_refusal(before, t->call.memory.length, &whole);
+    uint64_t end = effective_address(instruction, before) + handle_length(instruction->form);
+    if (t->meant_string)
+        sized_shapes[t->operand.shape][failed]++;
+    note(without != DONE, EVENT_SIZE_TRUNCATED);
+    if (failed)
+        return;
+    note(without != DONE, EVENT_SIZE_OPENED);
+    note(without == R12_GP, EVENT_SIZE_NOT_GP);
+    note(without == R13_SS, EVENT_SIZE_NOT_SS);
+    note(without == R14_PF, EVENT_SIZE_NOT_PF);
+    note(carries(&instruction->place, before), EVENT_SIZE_CARRY);
+    note(scales_out(&instruction->place, before), EVENT_SIZE_SCALED);
+    note(without != DONE && t->call.string.bytes[2] >> 3 == 0x48 >> 3, EVENT_SIZE_REX_W);
+    note(end == t->call.memory.length, EVENT_SIZE_ENDS_MEMORY);
+}
+
+static void cover_use(const struct trial *t, const struct cpu *before, const struct cpu *after, const struct instruction *instruction)
 {
     bool failed = load64(after->rflags) & ZF;
     uses[instruction->form][failed]++;
@@ -183,6 +244,8 @@ static void cover_use(const struct trial *t, const struct cpu *after, const stru
         shapes[t->operand.shape][failed]++;
         note(is_wide(instruction->form) && instruction->reg > 7, EVENT_WIDE_REX_R);
     }
+    if (instruction->address_32)
+        cover_sized_use(t, before, instruction, failed);
 }
 
 static void cover_refused_use(const struct trial *t, uint32_t number)
@@ -194,23 +257,58 @@ static void cover_refused_use(const struct trial *t, uint32_t number)
     note(end != 0 && end < handle_length(t->form), EVENT_OVER_THE_TOP);
 }
 
+/* strings with 67 that are refused for other reasons than the bytes behind it; each reason of 8 is one of the spoils */
+static void cover_refused_size(const struct trial *t, uint32_t number)
+{
+    const uint8_t *bytes = t->call.string.bytes;
+    size_t length = t->call.string.length;
+    bool behind_lock = length >= 2 && bytes[0] == 0xF0 && bytes[1] == 0x67;
+    note(number == R9_STRING_ENDS && length == 1 && bytes[0] == 0x67, EVENT_SIZE_ALONE);
+    note(number == R9_STRING_ENDS && length == 2 && behind_lock, EVENT_LOCK_SIZE_ALONE);
+    note(number == R10_UD && behind_lock, EVENT_LOCK_SIZE);
+}
+
+/* a use behind 67 that is outside memory */
+static void cover_sized_fault(const struct trial *t)
+{
+    const struct cpu *cpu = (const struct cpu *)t->call.cpu.bytes;
+    const uint64_t top = UINT64_C(1) << 32;
+    struct instruction instruction;
+    if (decode(t->call.string, &instruction) || !instruction.address_32)
+        return;
+    uint64_t address = effective_address(&instruction, cpu), end = address + handle_length(instruction.form);
+    note(end == t->call.memory.length + 1, EVENT_SIZE_PAST_MEMORY);
+    note(borrows(&instruction.place, cpu), EVENT_SIZE_BELOW_0);
+    note(end == top, EVENT_SIZE_TO_TOP);
+    note(address < top && end > top, EVENT_SIZE_OVER_TOP);
+}
+
+static void cover_refused_step(const struct trial *t, uint32_t number)
+{
+    cover_refused_use(t, number);
+    cover_refused_size(t, number);
+    if (number == R14_PF)
+        cover_sized_fault(t);
+}
+
 static void cover_step(const struct trial *t, const struct run *library)
 {
     const struct cpu *before = (const struct cpu *)t->call.cpu.bytes, *after = (const struct cpu *)library->call.cpu.bytes;
     struct instruction instruction;
     note(t->call.string.length == 0, EVENT_STRING_NONE);
     if (library->number) {
-        cover_refused_use(t, library->number);
+        cover_refused_step(t, library->number);
         return;
     }
     note(t->call.memory.length == MEMORY_LIMIT, EVENT_MEMORY_FULL);
     note(t->call.memory.length == 0, EVENT_MEMORY_NONE);
     if (decode(t->call.string, &instruction))
         return;
+    sizes[instruction.form][instruction.address_32]++;
     if (instruction.form == LOADIWKEY)
         cover_load(t, before, after);
     else if (is_use(instruction.form))
-        cover_use(t, after, &instruction);
+        cover_use(t, before, after, &instruction);
     else
         cover_encode(before, &instruction);
 }
@@ -404,9 +502,11 @@ void print_coverage(void)
 {
     print_numbers();
     print_orders();
-    print_pairs("uses", "ZF 0", "ZF 1", use_texts, uses, USE_FORMS);
+    print_pairs("uses", "ZF 0", "ZF 1", form_texts, uses, USE_FORMS);
     print_pairs("uses of handles", "ZF 0", "ZF 1", origin_texts, origins, ORIGINS);
     print_pairs("uses by operand", "ZF 0", "ZF 1", shape_texts, shapes, SHAPES);
+    print_pairs("uses by operand behind 67", "ZF 0", "ZF 1", shape_texts, sized_shapes, SHAPES);
+    print_pairs("instructions done", "plain", "behind 67", form_texts, sizes, FORMS);
     print_pairs("exceptions as the library's CPUID foretells", "none", "raised", probed_texts, probed_exceptions, PROBED_COUNT);
     print_leaves("CPUID leaf 0x19 without the feature", 0);
     print_leaves("CPUID leaf 0x19 with the feature", 1);
@@ -454,11 +554,13 @@ bool coverage_is_full(void)
             full &= !has_order(low, high) || need(orders[low][high], "order", text);
         }
     for (int i = 0; i < USE_FORMS; i++)
-        full &= need(uses[i][0], "ZF 0", use_texts[i]) && need(uses[i][1], "ZF 1", use_texts[i]);
+        full &= need(uses[i][0], "ZF 0", form_texts[i]) && need(uses[i][1], "ZF 1", form_texts[i]);
     for (int i = 0; i < ORIGINS; i++)
         full &= need(origins[i][i != HANDLE_FITTING && i != HANDLE_COUNTER_WRAPS], "handles", origin_texts[i]);
     for (int i = 0; i < SHAPES; i++)
-        full &= need(shapes[i][0], "ZF 0 with operand", shape_texts[i]);
+        full &= need(shapes[i][0], "ZF 0 with operand", shape_texts[i]) && need(sized_shapes[i][0], "ZF 0 with 67 and operand", shape_texts[i]);
+    for (int i = 0; i < FORMS; i++)
+        full &= need(sizes[i][0], "done without 67", form_texts[i]) && need(sizes[i][1], "done with 67", form_texts[i]);
     for (int i = 0; i < PROBED_COUNT; i++)
         full &= need(probed_exceptions[i][0], "no", probed_texts[i]) && need(probed_exceptions[i][1], "foretold", probed_texts[i]);
     for (int i = 0; i < spoil_count; i++)

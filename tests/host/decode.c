@@ -3,11 +3,17 @@
 #include "faults.h"
 
 enum { BAD_BYTE = 8, STRING_ENDS = 9 };
-enum { REX_B = 1, REX_X = 2, REX_R = 4 };
+enum { LOCK = 0xF0, ADDRESS_SIZE = 0x67, OPERAND_SIZE = 0x66, REP = 0xF3 };
+enum { REX_B = 1, REX_X = 2, REX_R = 4, REX_W = 8 };
 
 struct reader {
     struct buffer string;
     size_t at;
+};
+
+struct prefixes {
+    bool lock, address_32;
+    uint8_t rex; /* its lower half; 0 without one */
 };
 
 static uint32_t next(struct reader *reader, uint8_t *byte)
@@ -25,26 +31,52 @@ static uint32_t next_is(struct reader *reader, uint8_t wanted)
     return refusal ? refusal : byte != wanted ? BAD_BYTE : 0;
 }
 
-/* optional F0, F3, at most one REX byte, 0F 38 */
-static uint32_t read_prefixes(struct reader *reader, bool *lock, uint8_t *rex)
+/* steps over the byte if it is the next one */
+static bool skips(struct reader *reader, uint8_t byte)
 {
-    uint8_t byte;
-    uint32_t refusal = next(reader, &byte);
-    *lock = !refusal && byte == 0xF0;
-    if (*lock)
-        refusal = next(reader, &byte);
-    if (refusal || byte != 0xF3)
-        return refusal ? refusal : BAD_BYTE;
+    bool found = reader->at < reader->string.length && reader->string.bytes[reader->at] == byte;
+    reader->at += found;
+    return found;
+}
 
-    *rex = 0;
-    refusal = next(reader, &byte);
-    for (bool more = true; more && !refusal && byte >> 4 == 4; more = FAULT(TWO_REX)) {
-        *rex = byte & 0x0F;
-        refusal = next(reader, &byte);
-    }
-    if (refusal || byte != 0x0F)
-        return refusal ? refusal : BAD_BYTE;
-    return next_is(reader, 0x38);
+static bool skips_rex(struct reader *reader, uint8_t *rex)
+{
+    bool found = reader->at < reader->string.length && reader->string.bytes[reader->at] >> 4 == 4;
+    if (found)
+        *rex = reader->string.bytes[reader->at++] & 0x0F;
+    return found;
+}
+
+/* optional F0, optional 67 */
+static uint32_t read_legacy_prefixes(struct reader *reader, struct prefixes *prefixes)
+{
+    uint8_t size = FAULT(OPERAND_SIZE_TAKEN) ? OPERAND_SIZE : ADDRESS_SIZE;
+    bool before = FAULT(ADDRESS_SIZE_BEFORE_LOCK) && skips(reader, size);
+    prefixes->lock = skips(reader, LOCK);
+    prefixes->address_32 = before || skips(reader, size);
+    if (FAULT(TWO_ADDRESS_SIZES) && prefixes->address_32)
+        skips(reader, size);
+    if (FAULT(LOCK_ADDRESS_SIZE) && prefixes->lock && prefixes->address_32)
+        return BAD_BYTE;
+    if (FAULT(ADDRESS_SIZE_AT_END) && prefixes->address_32 && reader->at == reader->string.length)
+        return BAD_BYTE;
+    return 0;
+}
+
+/* these, F3, at most one REX byte, 0F 38 */
+static uint32_t read_prefixes(struct reader *reader, struct prefixes *prefixes)
+{
+    uint32_t refusal = read_legacy_prefixes(reader, prefixes);
+    if (refusal || (refusal = next_is(reader, REP)))
+        return refusal;
+    if (FAULT(ADDRESS_SIZE_BEHIND_F3))
+        prefixes->address_32 |= skips(reader, ADDRESS_SIZE);
+    prefixes->rex = 0;
+    for (bool more = true; more && skips_rex(reader, &prefixes->rex); more = FAULT(TWO_REX))
+        if (FAULT(ADDRESS_SIZE_BEHIND_REX))
+            prefixes->address_32 |= skips(reader, ADDRESS_SIZE);
+    refusal = next_is(reader, 0x0F);
+    return refusal ? refusal : next_is(reader, 0x38);
 }
 
 /* which instruction an opcode and the fields of its ModRM byte are; false if none */
@@ -115,9 +147,11 @@ static uint32_t read_sib(struct reader *reader, uint8_t rex, unsigned mod, struc
 }
 
 /* Intel's 64-bit ModRM rules: r/m 4 has a SIB byte, r/m 5 with mod 0 is relative to RIP, both whatever REX.B is */
-static uint32_t read_place(struct reader *reader, uint8_t rex, unsigned mod, unsigned rm, struct place *place)
+static uint32_t read_place(struct reader *reader, const struct prefixes *prefixes, unsigned mod, unsigned rm, struct place *place)
 {
     bool four = mod == 2;
+    uint8_t rex = prefixes->rex;
+    unsigned most = FAULT(ADDRESS_SIZE_DISP16) && prefixes->address_32 ? 2 : 4;
     *place = (struct place){.base = rm | (rex & REX_B ? 8 : 0), .index = NO_REGISTER};
     if (rm == 4) {
         uint32_t refusal = read_sib(reader, rex, mod, place);
@@ -130,27 +164,32 @@ static uint32_t read_place(struct reader *reader, uint8_t rex, unsigned mod, uns
             place->base = NO_REGISTER;
         four = true;
     }
-    return four ? read_displacement(reader, 4, &place->displacement) : mod == 1 ? read_displacement(reader, 1, &place->displacement) : 0;
+    return four ? read_displacement(reader, most, &place->displacement) : mod == 1 ? read_displacement(reader, 1, &place->displacement) : 0;
 }
 
 uint32_t decode(struct buffer string, struct instruction *instruction)
 {
     struct reader reader = {string, 0};
-    uint8_t rex, opcode, modrm;
-    uint32_t refusal = read_prefixes(&reader, &instruction->lock, &rex);
+    struct prefixes prefixes;
+    uint8_t opcode, modrm;
+    uint32_t refusal = read_prefixes(&reader, &prefixes);
     if (refusal || (refusal = next(&reader, &opcode)))
         return refusal;
     if (!is_opcode(opcode))
         return BAD_BYTE;
     if ((refusal = next(&reader, &modrm)))
         return refusal;
-    unsigned mod = modrm >> 6, reg = modrm >> 3 & 7, rm = modrm & 7, high_reg = reg | (rex & REX_R ? 8 : 0);
+    unsigned mod = modrm >> 6, reg = modrm >> 3 & 7, rm = modrm & 7, high_reg = reg | (prefixes.rex & REX_R ? 8 : 0);
     bool known = find_form(opcode, mod, FAULT(REX_R_IN_WIDE) ? high_reg : reg, &instruction->form);
+    if (FAULT(ADDRESS_SIZE_OF_REGISTERS) && prefixes.address_32 && mod == 3)
+        return BAD_BYTE;
     if (!known && !FAULT(OPERAND_TEST_LATE))
         return BAD_BYTE;
     instruction->reg = FAULT(REX_R_IGNORED) && is_use(instruction->form) ? reg : high_reg;
-    instruction->rm = rm | (rex & REX_B ? 8 : 0);
-    if (mod != 3 && (refusal = read_place(&reader, rex, mod, rm, &instruction->place)))
+    instruction->rm = rm | (prefixes.rex & REX_B ? 8 : 0);
+    instruction->lock = prefixes.lock;
+    instruction->address_32 = prefixes.address_32 && !(FAULT(REX_W_ADDRESS_SIZE) && prefixes.rex & REX_W);
+    if (mod != 3 && (refusal = read_place(&reader, &prefixes, mod, rm, &instruction->place)))
         return refusal;
     instruction->length = (unsigned)reader.at;
     return known ? 0 : BAD_BYTE;
@@ -181,17 +220,44 @@ size_t handle_length(enum form form)
     return HANDLE_HEAD + key_length(form);
 }
 
-uint64_t effective_address(const struct instruction *instruction, const struct cpu *cpu)
+/* bytes of the instruction that RIP-relative counts from RIP on */
+static uint64_t relative_length(const struct instruction *instruction)
+{
+    if (FAULT(RIP_FROM_START))
+        return 0;
+    return instruction->length - (FAULT(ADDRESS_SIZE_NOT_RELATIVE) && instruction->address_32 ? 1 : 0);
+}
+
+/* modulo 2^64 */
+static uint64_t address_sum(const struct instruction *instruction, const struct cpu *cpu)
 {
     const struct place *place = &instruction->place;
     uint64_t address = (uint64_t)place->displacement;
     if (place->rip_relative)
-        address += load64(cpu->rip) + (FAULT(RIP_FROM_START) ? 0 : instruction->length);
-    if (place->base != NO_REGISTER)
+        address += load64(cpu->rip) + relative_length(instruction);
+    if (place->base != NO_REGISTER && FAULT(ADDRESS_SIZE_OF_BASE) && instruction->address_32)
+        address += load32(cpu->registers[place->base]);
+    else if (place->base != NO_REGISTER)
         address += load64(cpu->registers[place->base]);
     if (place->index != NO_REGISTER)
         address += load64(cpu->registers[place->index]) << place->scale;
     return address;
+}
+
+/* how many bits of the sum are the address: 67 leaves the lower 32, whatever REX.W is and for RIP-relative places too (SDM volume 2, 2.2.1.6) */
+static unsigned address_bits(const struct instruction *instruction)
+{
+    if (!instruction->address_32)
+        return FAULT(ADDRESS_32_ALWAYS) ? 32 : 64;
+    if (FAULT(ADDRESS_SIZE_IGNORED) || FAULT(ADDRESS_SIZE_OF_BASE) || (FAULT(ADDRESS_SIZE_NOT_RIP) && instruction->place.rip_relative))
+        return 64;
+    return FAULT(ADDRESS_16) ? 16 : FAULT(ADDRESS_31) ? 31 : FAULT(ADDRESS_33) ? 33 : 32;
+}
+
+uint64_t effective_address(const struct instruction *instruction, const struct cpu *cpu)
+{
+    uint64_t dropped = 64 - address_bits(instruction);
+    return address_sum(instruction, cpu) << dropped >> dropped;
 }
 
 /* RSP or RBP itself as base: not R12 or R13, which share their numbers, and not an index */

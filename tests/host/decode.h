@@ -20,6 +20,9 @@ enum form {
     FORMS
 };
 
+/* bytes of the longest instruction: F0, 67, F3, REX, 0F, 38, opcode, ModRM, SIB and a displacement of four */
+enum { LONGEST = 13 };
+
 /* base + index * 2^scale + displacement; base and index may be NO_REGISTER */
 struct place {
     unsigned base, index, scale;
@@ -30,6 +33,7 @@ struct place {
 struct instruction {
     enum form form;
     bool lock;
+    bool address_32; /* the address-size prefix, 67 */
     unsigned reg, rm;   /* registers: the block or SRC1 or destination; SRC2 or source */
     struct place place; /* of a use */
     unsigned length;

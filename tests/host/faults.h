@@ -38,6 +38,27 @@
     X(FIRST_BYTE_CANONICAL, "only the first byte of a handle is tested for being canonical")           \
     X(CANONICAL_48, "48 bytes of a 64-byte handle are tested for being canonical")                     \
     X(MEMORY_48, "48 bytes of a 64-byte handle are tested against memory")                             \
+    X(ADDRESS_SIZE_IGNORED, "67 does not truncate the address")                                        \
+    X(ADDRESS_16, "67 truncates the address to 16 bits")                                               \
+    X(ADDRESS_31, "67 truncates the address to 31 bits")                                               \
+    X(ADDRESS_33, "67 truncates the address to 33 bits")                                               \
+    X(ADDRESS_32_ALWAYS, "the address is truncated to 32 bits without 67 too")                         \
+    X(ADDRESS_SIZE_OF_BASE, "67 truncates the base and not the sum")                                   \
+    X(ADDRESS_SIZE_NOT_RIP, "67 does not truncate RIP-relative addresses")                             \
+    X(ADDRESS_SIZE_NOT_RELATIVE, "67 does not count in the length for RIP-relative")                   \
+    X(ADDRESS_SIZE_NOT_IN_RIP, "67 does not count in the length that RIP advances by")                 \
+    X(ADDRESS_SIZE_TRUNCATES_RIP, "67 truncates RIP")                                                  \
+    X(ADDRESS_SIZE_DISP16, "with 67 long displacements have two bytes")                                \
+    X(REX_W_ADDRESS_SIZE, "REX.W gives the address its 64 bits back")                                  \
+    X(CANONICAL_BEFORE_SIZE, "canonical is asked of the address before 67 truncates it")               \
+    X(TWO_ADDRESS_SIZES, "a second 67 is taken")                                                       \
+    X(ADDRESS_SIZE_BEFORE_LOCK, "67 before F0 is taken")                                               \
+    X(ADDRESS_SIZE_BEHIND_F3, "67 behind F3 is taken")                                                 \
+    X(ADDRESS_SIZE_BEHIND_REX, "67 behind REX is taken")                                               \
+    X(ADDRESS_SIZE_OF_REGISTERS, "67 before LOADIWKEY and ENCODEKEY is refused")                       \
+    X(LOCK_ADDRESS_SIZE, "67 behind F0 is refused")                                                    \
+    X(ADDRESS_SIZE_AT_END, "a string that ends with 67 has a bad byte")                                \
+    X(OPERAND_SIZE_TAKEN, "66 is taken for 67")                                                        \
     /* refusals */                                                                                     \
     X(PAST_COUNT_UNREAD, "entries past the count may hold anything")                                   \
     X(PAST_COUNT_STATUS, "the copy status of an entry past the count may be 1")                        \

@@ -294,21 +294,28 @@ static void choose_platform(struct trial *t, enum call_kind kind)
 
 /* ---- strings and numbers that only the model can judge ---- */
 
+/* prefixes, in the places of each other, more often than other bytes */
+static uint8_t some_byte(void)
+{
+    static const uint8_t prefixes[] = {0x67, 0x67, 0xF0, 0xF3, 0x48};
+    return one_in(3) ? prefixes[below(sizeof prefixes)] : (uint8_t)any64();
+}
+
 static void mutate_string(struct trial *t)
 {
     for (uint64_t changes = 1 + below(3); changes > 0; changes--) {
-        size_t length = t->call.string.length, at = length ? below(length < 12 ? length : 12) : 0;
+        size_t length = t->call.string.length, at = length ? below(length < LONGEST ? length : LONGEST) : 0;
         switch (below(4)) {
         case 0:
             t->call.string.length = at;
             break;
         case 1:
             memmove(t->string_room + at + 1, t->string_room + at, length - at);
-            t->string_room[at] = (uint8_t)any64();
+            t->string_room[at] = some_byte();
             t->call.string.length++;
             break;
         default:
-            t->string_room[at] = one_in(2) ? (uint8_t)any64() : (uint8_t)(t->string_room[at] ^ 1 << below(8));
+            t->string_room[at] = one_in(2) ? some_byte() : (uint8_t)(t->string_room[at] ^ 1 << below(8));
         }
     }
 }

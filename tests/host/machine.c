@@ -126,6 +126,13 @@ static void loadiwkey(struct processor *processor, struct cpu *cpu, struct buffe
     set_flags(cpu, refused);
 }
 
+/* RIP is of 64 bits with 67 too, which counts in the length */
+static uint64_t next_rip(uint64_t rip, const struct instruction *instruction)
+{
+    uint64_t next = rip + instruction->length - (FAULT(ADDRESS_SIZE_NOT_IN_RIP) && instruction->address_32 ? 1 : 0);
+    return FAULT(ADDRESS_SIZE_TRUNCATES_RIP) && instruction->address_32 ? (uint32_t)next : next;
+}
+
 static void step(struct machine *m, struct call *call, const struct instruction *instruction)
 {
     struct processor *processor = &m->processors[call->processor];
@@ -142,7 +149,7 @@ static void step(struct machine *m, struct call *call, const struct instruction 
     else
         encodekey(m, &processor->iwkey, &cpu, instruction);
     if (opened || !FAULT(RIP_STAYS_ON_FAILURE))
-        store64(cpu.rip, load64(cpu.rip) + instruction->length);
+        store64(cpu.rip, next_rip(load64(cpu.rip), instruction));
     memcpy(call->cpu.bytes, &cpu, sizeof cpu);
 }
 

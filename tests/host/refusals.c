@@ -106,17 +106,26 @@ static bool canonical(uint64_t address)
     return address >> 47 == 0 || address >> 47 == 0x1FFFF;
 }
 
-/* All bytes are tested for being canonical before any is tested against memory (K2). */
-static uint32_t handle_refusal(const struct cpu *cpu, size_t memory_length, const struct instruction *instruction)
+/* The address that is asked for being canonical is the one that is loaded from: with 67 always canonical. */
+static uint64_t tested_address(const struct instruction *instruction, const struct cpu *cpu)
 {
-    uint64_t address = effective_address(instruction, cpu);
+    struct instruction tested = *instruction;
+    if (FAULT(CANONICAL_BEFORE_SIZE))
+        tested.address_32 = false;
+    return effective_address(&tested, cpu);
+}
+
+/* All bytes are tested for being canonical before any is tested against memory (K2). */
+uint32_t handle_refusal(const struct cpu *cpu, size_t memory_length, const struct instruction *instruction)
+{
+    uint64_t address = effective_address(instruction, cpu), tested = tested_address(instruction, cpu);
     size_t length = handle_length(instruction->form);
     size_t first = FAULT(FIRST_BYTE_CANONICAL) ? 1 : FAULT(CANONICAL_48) ? 48 : length;
     for (size_t i = 0; i < length && FAULT(PF_BEFORE_GP); i++)
         if (address + i >= memory_length)
             return R14_PF;
     for (size_t i = 0; i < first; i++)
-        if (!canonical(address + i))
+        if (!canonical(tested + i))
             return in_stack_segment(&instruction->place) ? R13_SS : R12_GP;
     for (size_t i = 0; i < (FAULT(MEMORY_48) ? 48 : length); i++)
         if (address + i >= memory_length)

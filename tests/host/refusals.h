@@ -30,5 +30,7 @@ bool machine_refused(struct buffer machine);
 
 /* Refusals 2 to 14: count, features and the call's arguments decide. A step that is not refused gets its instruction. */
 uint32_t call_refusal(uint8_t count, uint8_t features, const struct call *call, struct instruction *instruction);
+/* 12 to 14 of a use alone */
+uint32_t handle_refusal(const struct cpu *cpu, size_t memory_length, const struct instruction *instruction);
 
 #endif

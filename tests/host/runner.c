@@ -13,6 +13,7 @@
 #include "faults.h"
 #include "generate.h"
 #include "lengths.h"
+#include "prefixes.h"
 #include "probe.h"
 #include "selfcheck.h"
 
@@ -165,7 +166,7 @@ int main(int argc, char **argv)
     fflush(stdout);
     aes_start();
     /* a planted fault has to be found by the random calls */
-    if (!planted_fault() && (!model_meets_vectors(options.vectors) || !library_meets_lengths()))
+    if (!planted_fault() && (!model_meets_vectors(options.vectors) || !library_meets_lengths() || !library_meets_prefixes()))
         return 2;
     trial.memory_room = calloc(1, MEMORY_ROOM);
     if (!trial.memory_room)

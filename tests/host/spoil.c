@@ -250,9 +250,19 @@ static bool random_length(struct trial *t)
 
 /* ---- 8 and 9: the string ---- */
 
-static size_t f3_at(const struct trial *t)
+static bool has_lock(const struct trial *t)
 {
     return t->string_room[0] == 0xF0;
+}
+
+static bool has_address_size(const struct trial *t)
+{
+    return t->string_room[has_lock(t)] == 0x67;
+}
+
+static size_t f3_at(const struct trial *t)
+{
+    return (size_t)has_lock(t) + has_address_size(t);
 }
 
 static bool has_rex(const struct trial *t)
@@ -288,14 +298,15 @@ static bool byte_for_f3(struct trial *t)
     uint8_t *byte = &t->string_room[f3_at(t)];
     do
         *byte = (uint8_t)any64();
-    while (*byte == 0xF3 || *byte == 0xF0);
+    while (*byte == 0xF3 || *byte == 0xF0 || *byte == 0x67);
     return true;
 }
 
+/* before or behind a 67 */
 static bool prefix_before(struct trial *t)
 {
-    static const uint8_t prefixes[] = {0x66, 0x67, 0xF2, 0xF3, 0x2E, 0x36, 0x3E, 0x26, 0x64, 0x65, 0x40, 0x48};
-    return is_step(t) && insert(t, f3_at(t), prefixes[below(sizeof prefixes)]);
+    static const uint8_t prefixes[] = {0x66, 0xF2, 0xF3, 0x2E, 0x36, 0x3E, 0x26, 0x64, 0x65, 0x40, 0x48};
+    return is_step(t) && insert(t, one_in(2) ? has_lock(t) : f3_at(t), prefixes[below(sizeof prefixes)]);
 }
 
 static bool two_locks(struct trial *t)
@@ -303,9 +314,35 @@ static bool two_locks(struct trial *t)
     return is_step(t) && insert(t, 0, 0xF0) && insert(t, 0, 0xF0);
 }
 
+/* a 67 where instructions have it, if there is none yet */
+static bool ensure_address_size(struct trial *t)
+{
+    return has_address_size(t) || insert(t, f3_at(t), 0x67);
+}
+
+static bool address_size_before_lock(struct trial *t)
+{
+    return is_step(t) && ensure_address_size(t) && insert(t, f3_at(t), 0xF0);
+}
+
+static bool two_address_sizes(struct trial *t)
+{
+    return is_step(t) && ensure_address_size(t) && insert(t, f3_at(t), 0x67);
+}
+
+static bool address_size_behind_f3(struct trial *t)
+{
+    return is_step(t) && insert(t, f3_at(t) + 1, 0x67);
+}
+
+static bool address_size_behind_rex(struct trial *t)
+{
+    return is_step(t) && has_rex(t) && insert(t, f3_at(t) + 2, 0x67);
+}
+
 static bool prefix_after(struct trial *t)
 {
-    static const uint8_t prefixes[] = {0x66, 0x67, 0xF0, 0xF2, 0xF3, 0x2E, 0x64};
+    static const uint8_t prefixes[] = {0x66, 0xF0, 0xF2, 0xF3, 0x2E, 0x64};
     return is_step(t) && insert(t, f3_at(t) + 1, prefixes[below(sizeof prefixes)]);
 }
 
@@ -373,6 +410,16 @@ static bool string_cut(struct trial *t)
     if (!is_step(t))
         return false;
     t->call.string.length = one_in(10) ? 0 : below(t->operand.length);
+    return true;
+}
+
+/* 67 alone, or F0 67 */
+static bool ends_behind_address_size(struct trial *t)
+{
+    if (!is_step(t))
+        return false;
+    ensure_address_size(t);
+    t->call.string.length = f3_at(t);
     return true;
 }
 
@@ -508,6 +555,19 @@ static uint64_t uncanonical_start(size_t read)
     }
 }
 
+/* as below, for an address of 32 bits: often the last place from which a handle does not run over 2^32, and places behind it */
+static uint64_t outside_start_32(size_t read, size_t memory)
+{
+    switch (below(4)) {
+    case 0:
+        return UINT64_C(0x100000000) - read;
+    case 1:
+        return UINT64_C(0x100000000) - 1 - below(2 * read);
+    default:
+        return (uint32_t)(memory - read + 1 + below(read + 20));
+    }
+}
+
 /* a canonical start from which some byte is outside memory; the last one below the edge, and the top of the number range, often */
 static uint64_t outside_start(size_t read, size_t memory)
 {
@@ -523,11 +583,25 @@ static uint64_t outside_start(size_t read, size_t memory)
     }
 }
 
-static bool aim_at_any(struct trial *t, bool canonical)
+/* without 67, behind which every address is canonical */
+static bool aim_uncanonical(struct trial *t)
 {
-    size_t read = handle_length(t->form);
+    bool sized = t->operand.address_32;
+    if (sized)
+        drop_address_size(t);
     for (int tries = 0; tries < 20; tries++)
-        if (aim(t, canonical ? outside_start(read, t->call.memory.length) : uncanonical_start(read)))
+        if (aim(t, uncanonical_start(handle_length(t->form))))
+            return true;
+    if (sized)
+        put_address_size(t);
+    return false;
+}
+
+static bool aim_outside(struct trial *t)
+{
+    size_t read = handle_length(t->form), memory = t->call.memory.length;
+    for (int tries = 0; tries < 20; tries++)
+        if (aim(t, t->operand.address_32 ? outside_start_32(read, memory) : outside_start(read, memory)))
             return true;
     return false;
 }
@@ -539,17 +613,30 @@ static bool is_stack_operand(const struct trial *t)
 
 static bool uncanonical(struct trial *t)
 {
-    return is_step(t) && is_use(t->form) && !is_stack_operand(t) && aim_at_any(t, false);
+    return is_step(t) && is_use(t->form) && !is_stack_operand(t) && aim_uncanonical(t);
 }
 
 static bool uncanonical_stack(struct trial *t)
 {
-    return is_step(t) && is_use(t->form) && is_stack_operand(t) && aim_at_any(t, false);
+    return is_step(t) && is_use(t->form) && is_stack_operand(t) && aim_uncanonical(t);
 }
 
 static bool outside_memory(struct trial *t)
 {
-    return is_step(t) && is_use(t->form) && aim_at_any(t, true);
+    return is_step(t) && is_use(t->form) && aim_outside(t);
+}
+
+/* The handle's own place and one bit more, often the highest that can be set: an address of too few bits finds the handle. Memory ends below bit 20. */
+static bool one_bit_more(struct trial *t)
+{
+    if (!is_step(t) || !is_use(t->form))
+        return false;
+    unsigned bits = t->operand.address_32 ? 32 : 47;
+    uint64_t place = t->target % MEMORY_LIMIT;
+    for (int tries = 0; tries < 20; tries++)
+        if (aim(t, place + (UINT64_C(1) << (one_in(2) ? bits - 1 : 20 + below(bits - 20)))))
+            return true;
+    return false;
 }
 
 static bool memory_ends(struct trial *t)
@@ -640,8 +727,12 @@ const struct spoil spoils[] = {
     {R8_BYTE, "another byte for F3", byte_for_f3},
     {R8_BYTE, "another prefix before F3", prefix_before},
     {R8_BYTE, "F0 twice", two_locks},
+    {R8_BYTE, "67 before F0", address_size_before_lock},
+    {R8_BYTE, "67 twice", two_address_sizes},
     {R8_BYTE, "another prefix after F3", prefix_after},
+    {R8_BYTE, "67 behind F3", address_size_behind_f3},
     {R8_BYTE, "two REX bytes", two_rex},
+    {R8_BYTE, "67 behind REX", address_size_behind_rex},
     {R8_BYTE, "another byte for 0F", byte_for_0f},
     {R8_BYTE, "another byte for 38", byte_for_38},
     {R8_BYTE, "an unknown opcode", unknown_opcode},
@@ -649,6 +740,7 @@ const struct spoil spoils[] = {
     {R8_BYTE, "a wide form with reg 4 to 7", wide_reg_4},
     {R8_BYTE, "an encode of memory", encode_of_memory},
     {R9_STRING_ENDS, "the string ends", string_cut},
+    {R9_STRING_ENDS, "the string ends behind 67", ends_behind_address_size},
     {R10_UD, "LOCK", lock},
     {R10_UD, "KL feature off", kl_off},
     {R10_UD, "CR4.KL off", cr4_kl_off},
@@ -672,6 +764,7 @@ const struct spoil spoils[] = {
     {R12_GP, "backup register bits 63:1 written", written_bits},
     {R13_SS, "a handle byte not canonical in the stack segment", uncanonical_stack},
     {R14_PF, "a handle outside memory", outside_memory},
+    {R14_PF, "a handle's place and one address bit more", one_bit_more},
     {R14_PF, "memory ends inside a handle", memory_ends},
 };
 const int spoil_count = sizeof spoils / sizeof *spoils;

@@ -69,6 +69,7 @@ enum operand_shape {
 /* a memory operand as the assembler wrote it, so that it can be aimed at another address */
 struct operand {
     enum operand_shape shape;
+    bool address_32; /* 67 stands before the instruction, which may also be one of registers alone */
     unsigned base, index, scale;
     size_t displacement_bytes, displacement_at, length;
 };
