@@ -170,6 +170,7 @@ fn used_block(
     }
 }
 
+// An illegal handle returns at once: as a value of both branches the eight blocks would be on the stack once more.
 fn used_blocks(
     direction: Direction,
     size: KeySize,
@@ -181,20 +182,19 @@ fn used_blocks(
     ensures { λ r. ⌜ usedBlocks r ≡ usedBy (λ key. mapBlocks (instructions.aes direction size key) 8) (instructions.openedFor k cpl size direction (handleBytes size h)) blocks ⌝ }
 {
     if illegal(cpl, size, direction, h.aad) {
-        UsedBlocks { zf: true, blocks }
-    } else {
-        let sbox = sbox_table();
-        let mut mixed = [0u32; 256];
-        mix_table(&sbox, &mut mixed);
-        let Unwrapped::Key(key) = unwrapped_by(&mixed, &sbox, k, size, h) else {
-            return UsedBlocks { zf: true, blocks };
-        };
-        let mut ciphered = blocks;
-        cipher_blocks(&mixed, &sbox, direction, size, key, &mut ciphered);
-        UsedBlocks {
-            zf: false,
-            blocks: ciphered,
-        }
+        return UsedBlocks { zf: true, blocks };
+    }
+    let sbox = sbox_table();
+    let mut mixed = [0u32; 256];
+    mix_table(&sbox, &mut mixed);
+    let Unwrapped::Key(key) = unwrapped_by(&mixed, &sbox, k, size, h) else {
+        return UsedBlocks { zf: true, blocks };
+    };
+    let mut ciphered = blocks;
+    cipher_blocks(&mixed, &sbox, direction, size, key, &mut ciphered);
+    UsedBlocks {
+        zf: false,
+        blocks: ciphered,
     }
 }
 

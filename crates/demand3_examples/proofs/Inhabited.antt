@@ -72,7 +72,7 @@ blocksUpTo (suc n) = blocksUpTo n ++ block n
 
 -- [rax], [eax]
 abbrev atRax : AddressSize → Operand
-atRax size = operand.Memory (record { base = base.Register 0; index = index.None; scale = 0; displacement = 0; «address_size» = size })
+atRax size = operand.Memory (record { base = base.Register 0; index = index.None; scale = 0; «address_size» = size; displacement = 0 })
 
 module _ (c : Case) where
   -- ENCODEKEY128 on processor 0

@@ -19,7 +19,7 @@ pub wide-rex-r : decode (0xF3 ∷ 0x44 ∷ 0x0F ∷ 0x38 ∷ 0xD8 ∷ 0x18 ∷ [
     ≡ decoded.Found (instruction.WideUse (record {
       direction = Decrypt;
       size = Aes256;
-      handle = operand.Memory (record { base = base.Register 0; index = index.None; scale = 0; displacement = 0; «address_size» = Bits64 });
+      handle = operand.Memory (record { base = base.Register 0; index = index.None; scale = 0; «address_size» = Bits64; displacement = 0 });
     })) false 6
 unfolding decodeAt modrmOf sibOf indexOf displacementAt displacement32 instructionOf
 wide-rex-r = refl

@@ -44,7 +44,7 @@ OnOperands P (operands.Found reg rm next) = (reg < 16) × P rm
 OnOperands P operands.End = Unit {0}
 
 on-placed : (P : Operand → Type 0) (size : AddressSize) (reg : ℕ) (b : Base) (i : Index) (scale : ℕ) (d : Displacement) → reg < 16
-    → ((n : ℕ) → P (operand.Memory (record { base = b; index = i; scale = scale; displacement = n; «address_size» = size })))
+    → ((n : ℕ) → P (operand.Memory (record { base = b; index = i; scale = scale; «address_size» = size; displacement = n })))
     → OnOperands P (placed size reg b i scale d)
 on-placed P size reg b i scale (displacement.Found d next) h f = (h, f d)
 on-placed P size reg b i scale displacement.End h f = tt

@@ -19,7 +19,7 @@ use Rattle.isa.proofs.Ranges.{any-false, canonical-low}
 
 -- a memory place with another address size
 abbrev pub sized : AddressSize → MemoryPlace → MemoryPlace
-sized size p = record { base = p .base; index = p .index; scale = p .scale; displacement = p .displacement; «address_size» = size }
+sized size p = record { base = p .base; index = p .index; scale = p .scale; «address_size» = size; displacement = p .displacement }
 
 -- modulo 2^64 no bit is lost that an address size has
 pub narrow : (size : AddressSize) (x : ℕ) → x % 2 ^ 64 % 2 ^ addressBits size ≡ x % 2 ^ addressBits size

@@ -70,7 +70,7 @@ displacementAt s at mode = cond (eqb mode 1) (displacement8 s at) (cond (eqb mod
 -- a memory place, once its displacement is read
 abbrev pub placed : AddressSize → ℕ → Base → Index → ℕ → Displacement → Operands
 placed size reg b i scale (displacement.Found d next) =
-    operands.Found reg (operand.Memory (record { base = b; index = i; scale = scale; displacement = d; «address_size» = size })) next
+    operands.Found reg (operand.Memory (record { base = b; index = i; scale = scale; «address_size» = size; displacement = d })) next
 placed size reg b i scale displacement.End = operands.End
 
 -- SDM volume 2, table 2-3 and 2.2.1.2: SIB index 4 is none, but with REX.X it is R12

@@ -25,8 +25,8 @@ pub struct MemoryPlace {
     pub base: Base,
     pub index: Index,
     pub scale: u8,
-    pub displacement: u64,
     pub address_size: AddressSize,
+    pub displacement: u64,
 }
 
 pub enum Operand {

@@ -18,8 +18,8 @@ use Rattle.aeskl.proofs.used_blocks.Tie as tie
 illegal-requires : tie.Need-illegal-requires
 illegal-requires c κs = search needs
 
-returns-2 : tie.Need-returns-2
-returns-2 c =
+returns : tie.Need-returns
+returns c =
     let a = c .before .before .args in
     let left : Option (List ℕ) → Used = λ o. usedBy (λ key. mapBlocks (aes (a .direction) (a .size) key) 8) o (a .blocks) in
     illegal-used (a .k) (a .cpl) (a .size) (a .direction) (a .h) left (sym (c .before .illegal .ensures) ∙ c .if1 .taken)
@@ -41,8 +41,8 @@ enum-known-key c = search needs
 enum-told : tie.Need-enum-told
 enum-told c = search needs
 
-returns : tie.Need-returns
-returns c =
+returns-2 : tie.Need-returns-2
+returns-2 c =
     let a = c .before .before .before .before .before .before .before .before .before .before .before .args in
     let left : Option (List ℕ) → Used = λ o. usedBy (λ key. mapBlocks (aes (a .direction) (a .size) key) 8) o (a .blocks) in
     none-used (a .k) (a .cpl) (a .size) (a .direction) (a .h) left (sym (c .before .before .before .before .before .before .before .before .before .before .illegal .ensures) ∙ c .before .before .before .before .before .before .before .before .before .if1 .left)
@@ -78,13 +78,13 @@ used-blocks-spec =
     tie.close
     (tie.spec
     illegal-requires
+    returns
     sbox-table-requires
     mix-table-requires
     unwrapped-by-requires
     enum-known-key
     enum-told
-    returns
+    returns-2
     slice-aggregate-cipher-blocks
     cipher-blocks-requires
-    returns-2
     returns-3)
