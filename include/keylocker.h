@@ -165,12 +165,13 @@ uint32_t keylocker_power_on(uint8_t *machine, size_t machine_len, uint8_t count,
 
 /* Executes the one instruction that the string begins with, on a processor; bytes behind it are not looked at. The string is
  * F0 (LOCK, which gives #UD) or nothing, 67 or nothing, F3, a REX byte or nothing, 0F 38, opcode, ModRM, SIB and displacement as Intel has them in 64-bit
- * mode; with 67 the address of a handle is taken modulo 2^32, and registers as operands are what they are without it:
+ * mode:
  *   DC, DD, DE, DF with memory   AESENC128KL, AESDEC128KL, AESENC256KL, AESDEC256KL; reg is the block, the handle is in memory
  *   D8 /0 to /3 with memory      AESENCWIDE128KL, AESDECWIDE128KL, AESENCWIDE256KL, AESDECWIDE256KL on XMM0 to XMM7
  *   DC with a register           LOADIWKEY: reg SRC1 (encryption key, high half), r/m SRC2 (low half), XMM0 the integrity key, EAX as above
  *   FA, FB with a register       ENCODEKEY128, ENCODEKEY256: r/m the restrictions, key in XMM0 (and XMM1); the handle goes to XMM0 and up,
  *                                XMM4 to XMM6 become zero, reg tells NoBackup and key source
+ * With 67 the address of a handle is taken modulo 2^32, and so is always canonical; an instruction of registers alone only gets a byte longer by it.
  * cpu is that processor's CPU record, written where the answer is 0; RIP then stands behind the instruction. memory is the guest's, address 0 first, and
  * never written. random is KEYLOCKER_RANDOM_SIZE bytes for LOADIWKEY with key source 1, or none (length 0) where the random source is not ready.
  * Answer 0 does not say that a handle opened or a key was loaded: ZF is 0 if so. Where it is 1, blocks and IWKey are as they were. */

@@ -41,6 +41,11 @@ T-true false t = absurd t
 pub true-T : (b : Bool) → b ≡ true → T b
 true-T b e = subst T (sym e) tt
 
+-- what is made of a choice is the choice of what is made of both ways
+pub cond-of : {A B : Type 0} (f : A → B) (b : Bool) (x y : A) (v w : B) → f x ≡ v → f y ≡ w → f (cond b x y) ≡ cond b v w
+cond-of f true x y v w p q = p
+cond-of f false x y v w p q = q
+
 -- a property of both ways of a choice
 pub on-cond : {A : Type 0} (P : A → Type 0) (b : Bool) (x y : A) → (b ≡ true → P x) → (b ≡ false → P y) → P (cond b x y)
 on-cond P true x y f g = f refl

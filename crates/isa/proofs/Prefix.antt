@@ -6,8 +6,8 @@ use mathlib.Core.List.{List}
 use Prim.Native.Nat.{ℕ, _+_, _/_, _%_}
 use lib.Dec.{eqb, leb}
 use borrow.Author.Tests.{ne-eqb}
-use Rattle.bits.proofs.Choice.{cond-off}
-use Rattle.isa.specs.Decode.{byteAt, extended, displacement32, displacementAt, placed, indexOf, sibOf, sibFrom, modrmOf, opcode, allowed, instructionOf, built, modrmFrom, opcodeFrom, mapFrom, escapeFrom, rexOf, rexFrom, repFrom, lockFrom, decodeAt}
+use Rattle.bits.proofs.Choice.{cond-off, cond-of}
+use Rattle.isa.specs.Decode.{byteAt, extended, displacement32, displacementAt, placed, indexOf, sibOf, sibFrom, modrmOf, opcode, allowed, instructionOf, built, modrmFrom, opcodeFrom, mapFrom, escapeFrom, rexOf, rexFrom, repFrom, addressSizeFrom}
 use Rattle.isa.specs.declared.AddressSize.{AddressSize}
 use Rattle.isa.specs.declared.AddressSize.the-variants.{Bits64, Bits32}
 use Rattle.isa.specs.declared.Base.{Base}
@@ -58,11 +58,6 @@ module _ (size : AddressSize) where
 
 -- ---- the grammar asks for no address size
 
--- a choice, made before or after
-chosen : {A B : Type 0} (g : A → B) (b : Bool) (x y : A) (v w : B) → g x ≡ v → g y ≡ w → g (cond b x y) ≡ cond b v w
-chosen g true x y v w p q = p
-chosen g false x y v w p q = q
-
 module _ (size : AddressSize) where
   sized-placed : (old : AddressSize) (reg : ℕ) (b : Base) (i : Index) (scale : ℕ) (d : Displacement)
       → sizedOperands size (placed old reg b i scale d) ≡ placed size reg b i scale d
@@ -72,8 +67,8 @@ module _ (size : AddressSize) where
   sized-instruction : (op m reg : ℕ) (rm : Operand) → sizedInstruction size (instructionOf op m reg rm) ≡ instructionOf op m reg (sizedOperand size rm)
   unfolding instructionOf
   sized-instruction op m reg rm =
-      chosen (sizedInstruction size) (eqb op 0xD8) _ _ _ _ refl
-      (chosen (sizedInstruction size) (leb 0xFA op) _ _ _ _ refl (chosen (sizedInstruction size) (leb 0xC0 m) _ _ _ _ refl refl))
+      cond-of (sizedInstruction size) (eqb op 0xD8) _ _ _ _ refl
+      (cond-of (sizedInstruction size) (leb 0xFA op) _ _ _ _ refl (cond-of (sizedInstruction size) (leb 0xC0 m) _ _ _ _ refl refl))
 
   sized-built : (lock : Bool) (op m : ℕ) (o : Operands) → sizedDecoded size (built lock op m o) ≡ built lock op m (sizedOperands size o)
   sized-built lock op m (operands.Found reg rm next) = ap (λ (i : Instruction). decoded.Found i lock next) (sized-instruction op m reg rm)
@@ -86,7 +81,7 @@ module _ (size : AddressSize) where
     sized-sib : (mode reg : ℕ) (z : Step) → sizedOperands size (sibFrom s p mode reg z) ≡ sibFrom s q mode reg z
     unfolding sibOf indexOf
     sized-sib mode reg (step.Byte sib at) =
-        chosen (sizedOperands size) (eqb mode 0 && eqb (sib % 8) 5) _ _ _ _
+        cond-of (sizedOperands size) (eqb mode 0 && eqb (sib % 8) 5) _ _ _ _
         (sized-placed (p .«address_size») reg base.None (indexOf p sib) (sib / 64) (displacement32 s at))
         (sized-placed (p .«address_size») reg (base.Register (extended (p .b) sib)) (indexOf p sib) (sib / 64) (displacementAt s at mode))
     sized-sib mode reg step.End = refl
@@ -95,51 +90,56 @@ module _ (size : AddressSize) where
     unfolding modrmOf
     sized-modrm at m =
         let reg = extended (p .r) (m / 8) in
-        chosen (sizedOperands size) (eqb (m / 64) 3) _ _ _ _ refl
-        (chosen (sizedOperands size) (eqb (m % 8) 4) _ _ _ _ (sized-sib (m / 64) reg (byteAt s at))
-        (chosen (sizedOperands size) (eqb (m / 64) 0 && eqb (m % 8) 5) _ _ _ _
+        cond-of (sizedOperands size) (eqb (m / 64) 3) _ _ _ _ refl
+        (cond-of (sizedOperands size) (eqb (m % 8) 4) _ _ _ _ (sized-sib (m / 64) reg (byteAt s at))
+        (cond-of (sizedOperands size) (eqb (m / 64) 0 && eqb (m % 8) 5) _ _ _ _
         (sized-placed (p .«address_size») reg base.Rip index.None 0 (displacement32 s at))
         (sized-placed (p .«address_size») reg (base.Register (extended (p .b) m)) index.None 0 (displacementAt s at (m / 64)))))
 
     sized-modrm-from : (op : ℕ) (z : Step) → sizedDecoded size (modrmFrom s p op z) ≡ modrmFrom s q op z
     sized-modrm-from op (step.Byte m next) =
-        chosen (sizedDecoded size) (allowed op m) _ _ _ _
+        cond-of (sizedDecoded size) (allowed op m) _ _ _ _
         (sized-built (p .lock) op m (modrmOf s next p m) ∙ ap (built (p .lock) op m) (sized-modrm next m)) refl
     sized-modrm-from op step.End = refl
 
     sized-opcode : (z : Step) → sizedDecoded size (opcodeFrom s p z) ≡ opcodeFrom s q z
-    sized-opcode (step.Byte b next) = chosen (sizedDecoded size) (opcode b) _ _ _ _ (sized-modrm-from b (byteAt s next)) refl
+    sized-opcode (step.Byte b next) = cond-of (sizedDecoded size) (opcode b) _ _ _ _ (sized-modrm-from b (byteAt s next)) refl
     sized-opcode step.End = refl
 
     sized-map : (z : Step) → sizedDecoded size (mapFrom s p z) ≡ mapFrom s q z
-    sized-map (step.Byte b next) = chosen (sizedDecoded size) (eqb b 0x38) _ _ _ _ (sized-opcode (byteAt s next)) refl
+    sized-map (step.Byte b next) = cond-of (sizedDecoded size) (eqb b 0x38) _ _ _ _ (sized-opcode (byteAt s next)) refl
     sized-map step.End = refl
 
     sized-escape : (z : Step) → sizedDecoded size (escapeFrom s p z) ≡ escapeFrom s q z
-    sized-escape (step.Byte b next) = chosen (sizedDecoded size) (eqb b 0x0F) _ _ _ _ (sized-map (byteAt s next)) refl
+    sized-escape (step.Byte b next) = cond-of (sizedDecoded size) (eqb b 0x0F) _ _ _ _ (sized-map (byteAt s next)) refl
     sized-escape step.End = refl
 
   module _ (s : List ℕ) (lock : Bool) (old : AddressSize) where
     sized-rex : (z : Step) → sizedDecoded size (rexFrom s lock old z) ≡ rexFrom s lock size z
     sized-rex (step.Byte b next) =
-        chosen (sizedDecoded size) (eqb (b / 16) 4) _ _ _ _ (sized-escape s (rexOf lock old b) (byteAt s next))
+        cond-of (sizedDecoded size) (eqb (b / 16) 4) _ _ _ _ (sized-escape s (rexOf lock old b) (byteAt s next))
         (sized-escape s (rexOf lock old 0) (step.Byte b next))
     sized-rex step.End = refl
 
     sized-rep : (z : Step) → sizedDecoded size (repFrom s lock old z) ≡ repFrom s lock size z
-    sized-rep (step.Byte b next) = chosen (sizedDecoded size) (eqb b 0xF3) _ _ _ _ (sized-rex (byteAt s next)) refl
+    sized-rep (step.Byte b next) = cond-of (sizedDecoded size) (eqb b 0xF3) _ _ _ _ (sized-rex (byteAt s next)) refl
     sized-rep step.End = refl
 
--- change request (ii): "One byte 67 may stand .. before F3", at any position of a string
-module _ (s : List ℕ) (at : ℕ) (e : byteAt s at ≡ step.Byte 0x67 (at + 1)) where
-  pub with-67 : byteAt s (at + 1) ≡ step.Byte 0xF3 (at + 2) → decodeAt s at ≡ sizedDecoded Bits32 (decodeAt s (at + 1))
-  unfolding decodeAt
+-- change request (ii): "One byte 67 may stand after LOCK and before F3", at any position of a string, behind LOCK or not
+module _ (s : List ℕ) (lock : Bool) (at : ℕ) (e : byteAt s at ≡ step.Byte 0x67 (at + 1)) where
+  pub with-67 : byteAt s (at + 1) ≡ step.Byte 0xF3 (at + 2)
+      → addressSizeFrom s lock (byteAt s at) ≡ sizedDecoded Bits32 (addressSizeFrom s lock (byteAt s (at + 1)))
   with-67 f =
-      let rep = step.Byte 0xF3 (at + 2) in
-      ap (lockFrom s) e ∙ ap (repFrom s false Bits32) f ∙ sym (sized-rep Bits32 s false Bits64 rep)
-      ∙ sym (ap (λ (z : Step). sizedDecoded Bits32 (lockFrom s z)) f)
+      ap (addressSizeFrom s lock) e ∙ ap (repFrom s lock Bits32) f ∙ sym (sized-rep Bits32 s lock Bits64 (step.Byte 0xF3 (at + 2)))
+      ∙ sym (ap (λ (z : Step). sizedDecoded Bits32 (addressSizeFrom s lock z)) f)
 
   -- no other byte, so no second 67 and no F0
-  pub nothing-else : (b next : ℕ) → byteAt s (at + 1) ≡ step.Byte b next → (b ≡ 0xF3 → ⊥) → decodeAt s at ≡ decoded.BadByte
-  unfolding decodeAt
-  nothing-else b next f n = ap (lockFrom s) e ∙ ap (repFrom s false Bits32) f ∙ cond-off (ne-eqb b 0xF3 n) _ _
+  pub nothing-else : (b next : ℕ) → byteAt s (at + 1) ≡ step.Byte b next → (b ≡ 0xF3 → ⊥) → addressSizeFrom s lock (byteAt s at) ≡ decoded.BadByte
+  nothing-else b next f n = ap (addressSizeFrom s lock) e ∙ ap (repFrom s lock Bits32) f ∙ cond-off (ne-eqb b 0xF3 n) _ _
+
+-- without it every memory place has 64-bit addresses, as before
+pub without-67 : (s : List ℕ) (lock : Bool) (b next : ℕ) → (b ≡ 0x67 → ⊥)
+    → sizedDecoded Bits64 (addressSizeFrom s lock (step.Byte b next)) ≡ addressSizeFrom s lock (step.Byte b next)
+without-67 s lock b next n = ap (sizedDecoded Bits64) off ∙ sized-rep Bits64 s lock Bits64 (step.Byte b next) ∙ sym off where
+  off : addressSizeFrom s lock (step.Byte b next) ≡ repFrom s lock Bits64 (step.Byte b next)
+  off = cond-off (ne-eqb b 0x67 n) _ _

@@ -41,8 +41,8 @@ abbrev pub addressBits : AddressSize → ℕ
 addressBits Bits64 = 64
 addressBits Bits32 = 32
 
--- the scope, "Instruction strings", and change request (ii); SDM volume 1, 3.3.7: modulo 2^64, with the prefix 67 modulo 2^32, for an instruction of so many
--- bytes at RIP
+-- the scope, "Instruction strings": modulo 2^64, for an instruction of so many bytes at RIP; change request (ii), with the prefix 67: "worked out as before and
+-- taken modulo 2^32" (SDM volume 1, 3.3.7: truncated to the address size)
 unfoldable pub effectiveAddress : (ℕ → ℕ) → ℕ → ℕ → MemoryPlace → Address
 effectiveAddress registers rip bytes p =
     record {

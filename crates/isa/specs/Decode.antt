@@ -67,7 +67,7 @@ displacement32 s at =
 unfoldable pub displacementAt : List ℕ → ℕ → ℕ → Displacement
 displacementAt s at mode = cond (eqb mode 1) (displacement8 s at) (cond (eqb mode 2) (displacement32 s at) (displacement.Found 0 at))
 
--- a memory place, once its displacement is read
+-- a memory place of this address size, once its displacement is read
 abbrev pub placed : AddressSize → ℕ → Base → Index → ℕ → Displacement → Operands
 placed size reg b i scale (displacement.Found d next) =
     operands.Found reg (operand.Memory (record { base = b; index = i; scale = scale; «address_size» = size; displacement = d })) next
@@ -148,7 +148,7 @@ abbrev pub escapeFrom : List ℕ → Prefixes → Step → Decoded
 escapeFrom s p (step.Byte b next) = cond (eqb b 0x0F) (mapFrom s p (byteAt s next)) decoded.BadByte
 escapeFrom s p step.End = decoded.EndOfString
 
--- the bits of a REX byte, 0100WRXB
+-- SDM volume 2, 2.2.1.2: the bits of a REX byte, 0100WRXB, beside what was read before it
 abbrev pub rexOf : Bool → AddressSize → ℕ → Prefixes
 rexOf lock size b = record { lock = lock; «address_size» = size; r = eqb (b / 4 % 2) 1; x = eqb (b / 2 % 2) 1; b = eqb (b % 2) 1 }
 
@@ -163,7 +163,8 @@ abbrev pub repFrom : List ℕ → Bool → AddressSize → Step → Decoded
 repFrom s lock size (step.Byte b next) = cond (eqb b 0xF3) (rexFrom s lock size (byteAt s next)) decoded.BadByte
 repFrom s lock size step.End = decoded.EndOfString
 
--- from 67, or what stands in its place, on: without it the address size is 64 bits
+-- from 67, or what stands in its place, on; change request (ii): "One byte 67 may stand after LOCK and before F3" (SDM volume 2, 2.1.1). Without it the address
+-- size is 64 bits (SDM volume 1, table 3-4)
 abbrev pub addressSizeFrom : List ℕ → Bool → Step → Decoded
 addressSizeFrom s lock (step.Byte b next) = cond (eqb b 0x67) (repFrom s lock Bits32 (byteAt s next)) (repFrom s lock Bits64 (step.Byte b next))
 addressSizeFrom s lock step.End = decoded.EndOfString

@@ -10,7 +10,7 @@ use lib.Dec.{eqb}
 use lib.ListN.{length, getD, set, getD-replicate}
 use lib.Seq.{getD-set-same, getD-set-other}
 use borrow.Author.Tests.{eq-eqb, ne-eqb, eqb-true, eqb-false}
-use Rattle.bits.proofs.Choice.{cond-on, cond-off, on-cond}
+use Rattle.bits.proofs.Choice.{cond-on, cond-off, cond-of, on-cond}
 use Rattle.model.specs.Numbers.{bit}
 use Rattle.model.specs.Records.{processorLimit, zeroProcessor, noProcessor, processorAt, absent, holding, withKey, withCopyStatus, withBackup, withStore, withPending, withValid, withError, withConsumed}
 use Rattle.model.specs.Calls.{PowerOn, ReadCall, WriteCall, Call, step, read, write, settle, sleep, reset, Answer, Outcome}
@@ -41,10 +41,6 @@ named-slot calls s (some n) e = slot-some s (keyOf calls n) e .0
 cond-not : {A : Type 0} (t : Bool) (x y : A) → cond (not t) x y ≡ cond t y x
 cond-not true x y = refl
 cond-not false x y = refl
-
-of-cond : {A B : Type 0} (f : A → B) (t : Bool) (x y : A) → f (cond t x y) ≡ cond t (f x) (f y)
-of-cond f true x y = refl
-of-cond f false x y = refl
 
 cond-same : {A : Type 0} (t : Bool) (x : A) → cond t x x ≡ x
 cond-same true x = refl
@@ -101,8 +97,8 @@ module _ (p : PowerOn) (past : List Call) (m : Machine) (h : History) (inv : Hol
         go : (t o : Bool)
             → statusOf (cond t (cond o (copyOut entry platform) (copyIn entry platform)) (record { processor = entry; platform = platform }))
             ≡ cond t (cond (cond o (copiesOut past q h) (isName (h .backup))) 1 0) (entry .«copy_status»)
-        go true true = ap statusOf copy-out ∙ of-cond statusOf (copiesOut past q h) isOut failed
-        go true false = ap statusOf copy-in ∙ of-cond statusOf (isName (h .backup)) isIn failed
+        go true true = ap statusOf copy-out ∙ cond-of statusOf (copiesOut past q h) isOut failed _ _ refl refl
+        go true false = ap statusOf copy-in ∙ cond-of statusOf (isName (h .backup)) isIn failed _ _ refl refl
         go false o = refl
 
     copied-valid : (address value : ℕ) → platform .valid ≡ cond (backedUp h) 1 0
@@ -122,9 +118,9 @@ module _ (p : PowerOn) (past : List Call) (m : Machine) (h : History) (inv : Hol
         go : (t o : Bool)
             → validOf (cond t (cond o (copyOut entry platform) (copyIn entry platform)) (record { processor = entry; platform = platform }))
             ≡ cond (backedUp (cond t (cond o (copiedOut past q h) (gets q (h .backup) h)) h)) 1 0
-        go true true = ap validOf copy-out ∙ of-cond validOf (copiesOut past q h) isOut failed ∙ out (copiesOut past q h)
+        go true true = ap validOf copy-out ∙ cond-of validOf (copiesOut past q h) isOut failed _ _ refl refl ∙ out (copiesOut past q h)
         go true false =
-            ap validOf copy-in ∙ of-cond validOf (isName (h .backup)) isIn failed ∙ cond-same (isName (h .backup)) (platform .valid) ∙ v
+            ap validOf copy-in ∙ cond-of validOf (isName (h .backup)) isIn failed _ _ refl refl ∙ cond-same (isName (h .backup)) (platform .valid) ∙ v
             ∙ ap (λ (t : Bool). cond t 1 0) (got (h .backup))
         go false o = v
 
