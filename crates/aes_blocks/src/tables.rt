@@ -86,7 +86,7 @@ fn mix_quarter(sbox: &[u8; 256], mixed: &mut [u32; 256], at: usize)
 }
 
 // An array has its length, which the prover does not know behind a reference. Nothing of this is left in the compiled code.
-fn has_length(table: [u32; 256])
+pub fn has_length(table: [u32; 256])
     ensures { λ _. ⌜ length table ≡ 256 ⌝ }
 {}
 

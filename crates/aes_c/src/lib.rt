@@ -17,8 +17,8 @@ use aes::word::to_bytes;
 use aes_blocks::encrypt_block_with;
 use aes_blocks::encrypt_blocks_with;
 use aes_blocks::tables::mix_table;
-use aes_inv_blocks::decrypt_block;
-use aes_inv_blocks::decrypt_blocks;
+use aes_inv_blocks::decrypt_block_with;
+use aes_inv_blocks::decrypt_blocks_with;
 use aes_key::expand_with;
 use fips197::KeySize;
 use sbox::sbox_table;
@@ -56,6 +56,22 @@ pub fn encrypt_blocks(size: KeySize, w: &[u32; 60], bytes: &mut [u8])
     let mut mixed = [0u32; 256];
     mix_table(&sbox, &mut mixed);
     encrypt_blocks_with(&mixed, &sbox, size, w, bytes);
+}
+
+pub fn decrypt_block(size: KeySize, w: &[u32; 60], b: Block) -> Block
+    ensures { λ r. ⌜ bytesOf r ≡ invCipher (schedule size (now (w .entry))) (nr size) (bytesOf b) ⌝ }
+{
+    let sbox = sbox_table();
+    let mut products = [0u32; 256];
+    decrypt_block_with(&sbox, &mut products, size, w, b)
+}
+
+pub fn decrypt_blocks(size: KeySize, w: &[u32; 60], bytes: &mut [u8])
+    ensures { λ _. ⌜ now (bytes .exit) ≡ mapBlocks (invCipher (schedule size (now (w .entry))) (nr size)) (length (now (bytes .entry)) / 16) (now (bytes .entry)) ⌝ }
+{
+    let sbox = sbox_table();
+    let mut mixed = [0u32; 256];
+    decrypt_blocks_with(&sbox, &mut mixed, size, w, bytes);
 }
 
 #[no_mangle]

@@ -4,7 +4,7 @@ ghost use Prim.Native.Nat.{_*_, _/_, _≤_};
 ghost use lib.ListN.{length};
 ghost use Rattle.bits.specs.Blocks.{mapBlocks};
 ghost use Rattle.bits.specs.Words.{leWords};
-ghost use Rattle.fips197.specs.Sbox.{InvSboxTable};
+ghost use Rattle.fips197.specs.Sbox.{SboxTable, InvSboxTable};
 ghost use Rattle.fips197.specs.Cipher.{addRoundKey};
 ghost use Rattle.fips197.specs.InvCipher.{invSubBytes, invShiftRows, invMixRow, invMixColumns, invRound, invCipher};
 ghost use Rattle.aes_inv_blocks.specs.Tables.{Products, InvMixedTable, InvMixed};
@@ -23,6 +23,7 @@ use aes::inv_cipher::inv_final_round;
 use aes::mix::inv_mix_column;
 use aes::word::block_at;
 use aes::word::put_block;
+use aes_blocks::tables::has_length;
 use aes_blocks::tables::table_column;
 use fips197::KeySize;
 use sbox::inverse::inverse_table;
@@ -88,7 +89,7 @@ fn table_inv_cipher(
 }
 
 // Every whole block of the bytes, by lent tables and mixed round keys.
-fn decrypt_blocks_with(
+fn decrypt_blocks_by(
     mixed: &[u32; 256],
     inverse: &[u8; 256],
     dw: &[u32; 60],
@@ -112,15 +113,23 @@ fn decrypt_blocks_with(
     }
 }
 
-// Every whole block of the bytes; what is left at the end stays.
-pub fn decrypt_blocks(size: KeySize, w: &[u32; 60], bytes: &mut [u8])
+// Every whole block of the bytes, by a lent S-box; what is left at the end stays. The table is made in `mixed`, whatever that held.
+pub fn decrypt_blocks_with(
+    sbox: &[u8; 256],
+    mixed: &mut [u32; 256],
+    size: KeySize,
+    w: &[u32; 60],
+    bytes: &mut [u8],
+)
+    requires { ⌜ SboxTable (now sbox) ⌝ }
     ensures { λ _. ⌜ now (bytes .exit) ≡ mapBlocks (invCipher (schedule size (now (w .entry))) (nr size)) (length (now (bytes .entry)) / 16) (now (bytes .entry)) ⌝ }
 {
-    let inverse = inverse_table();
-    let mut mixed = [0u32; 256];
-    inv_mix_table(&inverse, &mut mixed);
+    let whole = *mixed;
+    has_length(whole);
+    let inverse = inverse_table(sbox);
+    inv_mix_table(&inverse, mixed);
     let dw = inv_mixed_keys(w, rounds(size));
-    decrypt_blocks_with(&mixed, &inverse, &dw, size, w, bytes);
+    decrypt_blocks_by(mixed, &inverse, &dw, size, w, bytes);
 }
 
 // ---- one block deciphered: neither the S-box in the table nor mixed round keys would pay
@@ -167,11 +176,21 @@ fn inv_cipher_by(
     inv_final_round(inverse, s, round_key(w, 0))
 }
 
-pub fn decrypt_block(size: KeySize, w: &[u32; 60], b: Block) -> Block
+// By a lent S-box. The products are made in `products`, whatever that held; then the inverse S-box, while their stores are under way.
+pub fn decrypt_block_with(
+    sbox: &[u8; 256],
+    products: &mut [u32; 256],
+    size: KeySize,
+    w: &[u32; 60],
+    b: Block,
+) -> Block
+    requires { ⌜ SboxTable (now sbox) ⌝ }
     ensures { λ r. ⌜ bytesOf r ≡ invCipher (schedule size (now (w .entry))) (nr size) (bytesOf b) ⌝ }
 {
-    let inverse = inverse_table();
-    let mut products = [0u32; 256];
-    inv_products(&mut products);
-    inv_cipher_by(&products, &inverse, w, rounds(size), b)
+    let whole = *products;
+    has_length(whole);
+    products[0] = 0;
+    inv_products(products);
+    let inverse = inverse_table(sbox);
+    inv_cipher_by(products, &inverse, w, rounds(size), b)
 }

@@ -19,8 +19,8 @@ use aes::word::key_from_bytes;
 use aes_blocks::encrypt_block_with;
 use aes_blocks::encrypt_blocks_with;
 use aes_blocks::tables::mix_table;
-use aes_inv_blocks::decrypt_block;
-use aes_inv_blocks::decrypt_blocks;
+use aes_inv_blocks::decrypt_block_with;
+use aes_inv_blocks::decrypt_blocks_with;
 use aes_key::expand_with;
 use cpu::put_xmm;
 use cpu::put_zf;
@@ -88,10 +88,10 @@ fn unwrapped_by(
     )
 }
 
-// ---- blocks
+// ---- blocks, by lent tables; decryption makes its own in the place of the cipher's, which nothing needs after the unwrapping
 
 fn cipher_block(
-    mixed: &[u32; 256],
+    mixed: &mut [u32; 256],
     sbox: &[u8; 256],
     direction: Direction,
     size: KeySize,
@@ -105,12 +105,12 @@ fn cipher_block(
     let w = expand_with(sbox, size, key);
     match direction {
         Direction::Encrypt => encrypt_block_with(mixed, sbox, size, &w, b),
-        Direction::Decrypt => decrypt_block(size, &w, b),
+        Direction::Decrypt => decrypt_block_with(sbox, mixed, size, &w, b),
     }
 }
 
 fn cipher_blocks(
-    mixed: &[u32; 256],
+    mixed: &mut [u32; 256],
     sbox: &[u8; 256],
     direction: Direction,
     size: KeySize,
@@ -124,7 +124,7 @@ fn cipher_blocks(
     let w = expand_with(sbox, size, key);
     match direction {
         Direction::Encrypt => encrypt_blocks_with(mixed, sbox, size, &w, bytes),
-        Direction::Decrypt => decrypt_blocks(size, &w, bytes),
+        Direction::Decrypt => decrypt_blocks_with(sbox, mixed, size, &w, bytes),
     }
 }
 
@@ -162,7 +162,7 @@ fn used_block(
         let Unwrapped::Key(key) = unwrapped_by(&mixed, &sbox, k, size, h) else {
             return UsedBlock { zf: true, block };
         };
-        let ciphered = cipher_block(&mixed, &sbox, direction, size, key, block);
+        let ciphered = cipher_block(&mut mixed, &sbox, direction, size, key, block);
         UsedBlock {
             zf: false,
             block: ciphered,
@@ -191,7 +191,7 @@ fn used_blocks(
         return UsedBlocks { zf: true, blocks };
     };
     let mut ciphered = blocks;
-    cipher_blocks(&mixed, &sbox, direction, size, key, &mut ciphered);
+    cipher_blocks(&mut mixed, &sbox, direction, size, key, &mut ciphered);
     UsedBlocks {
         zf: false,
         blocks: ciphered,

@@ -1,4 +1,4 @@
--- The S-box and its inverse give bytes; the inverse affine map undoes the affine map, and the inverse S-box the S-box.
+-- The S-box and its inverse give bytes; the affine maps undo each other, and so do the S-box and its inverse.
 -- Assumes nothing.
 use mathlib.Core.Path.{_≡_, ap, _∙_}
 use Prim.Native.Nat.{ℕ, _<_}
@@ -26,3 +26,12 @@ inv-affine = same (λ b. invAffine (affine b)) (λ b. b) tt
 pub inv-sbox : (b : ℕ) → b < 256 → invSbox (sbox b) ≡ b
 unfolding invSbox sbox
 inv-sbox b h = ap inverse (inv-affine (inverse b) (inverse-byte b h)) ∙ inverse-inverse b h
+
+affine-inv : (b : ℕ) → b < 256 → affine (invAffine b) ≡ b
+unfolding bytes invAffine affine fromBits bit
+affine-inv = same (λ b. affine (invAffine b)) (λ b. b) tt
+
+-- every byte is a value of the S-box: at its inverse
+pub sbox-inv : (b : ℕ) → b < 256 → sbox (invSbox b) ≡ b
+unfolding invSbox sbox invAffine
+sbox-inv b h = ap affine (inverse-inverse (invAffine b) (fromBits-byte _)) ∙ affine-inv b h

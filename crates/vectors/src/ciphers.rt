@@ -50,7 +50,7 @@ fn cipher_one(name: &[u8], size: KeySize, w: &[u32; 60], plaintext: Block) {
     start(b"encrypt ", name);
     print_block(c);
     start(b"\ndecrypt ", name);
-    print_block(aes_inv_blocks::decrypt_block(size, w, c));
+    print_block(aes_c::decrypt_block(size, w, c));
     print(b"\n");
 }
 
@@ -70,7 +70,7 @@ fn cipher_eight(name: &[u8], size: KeySize, w: &[u32; 60], plaintext: Block) {
     aes_c::encrypt_blocks(size, w, &mut bytes);
     start(b"encrypt8 ", name);
     print_blocks(&bytes);
-    aes_inv_blocks::decrypt_blocks(size, w, &mut bytes);
+    aes_c::decrypt_blocks(size, w, &mut bytes);
     start(b"\ndecrypt8 ", name);
     print_blocks(&bytes);
     print(b"\n");

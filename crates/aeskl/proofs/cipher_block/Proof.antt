@@ -27,8 +27,8 @@ encrypt-block-with-requires c κs = search needs
 enum-told-2 : tie.Need-enum-told-2
 enum-told-2 c = search needs
 
-decrypt-block-requires : tie.Need-decrypt-block-requires
-decrypt-block-requires c κs = search needs
+decrypt-block-with-requires : tie.Need-decrypt-block-with-requires
+decrypt-block-with-requires c κs = c .before .before .before .before .before .pre .1
 
 scheduled : (c : tie.After-expand-with) → schedule (c .before .args .size) (c .expand-with .result) ≡ keyExpansion (nk (c .before .args .size)) (keyBytes (c .before .args .size) (c .before .args .key))
 scheduled c = schedule-stored (c .before .args .size) (c .before .args .key) (c .expand-with .result) (c .expand-with .ensures)
@@ -36,20 +36,20 @@ scheduled c = schedule-stored (c .before .args .size) (c .before .args .key) (c 
 returns : tie.Need-returns
 unfolding encrypt
 returns c =
-    let st = c .before .before .before .before .before in
+    let st = c .before .before .before .before .before .before in
     let a = st .args in
     c .encrypt-block-with .ensures
-    ∙ block-by _ _ (st .pre .0) (st .pre .1) (a .size) (c .before .before .before .before .expand-with .result) (a .b)
-    ∙ ap (λ (w : List ℕ). cipher w (nr (a .size)) (bytesOf (a .b))) (scheduled (c .before .before .before .before))
-    ∙ ap (λ (d : Direction). aes d (a .size) (keyBytes (a .size) (a .key)) (bytesOf (a .b))) (sym (c .before .before .enum-told .given .1))
+    ∙ block-by _ _ (st .pre .0) (st .pre .1) (a .size) (c .before .before .before .before .before .expand-with .result) (a .b)
+    ∙ ap (λ (w : List ℕ). cipher w (nr (a .size)) (bytesOf (a .b))) (scheduled (c .before .before .before .before .before))
+    ∙ ap (λ (d : Direction). aes d (a .size) (keyBytes (a .size) (a .key)) (bytesOf (a .b))) (sym (c .before .before .before .enum-told .given .1))
 
 returns-2 : tie.Need-returns-2
 unfolding decrypt
 returns-2 c =
-    let a = c .before .before .before .before .before .args in
-    c .decrypt-block .ensures
-    ∙ ap (λ (w : List ℕ). invCipher w (nr (a .size)) (bytesOf (a .b))) (scheduled (c .before .before .before .before))
-    ∙ ap (λ (d : Direction). aes d (a .size) (keyBytes (a .size) (a .key)) (bytesOf (a .b))) (sym (c .before .before .enum-told2 .given .1))
+    let a = c .before .before .before .before .before .before .args in
+    c .decrypt-block-with .ensures
+    ∙ ap (λ (w : List ℕ). invCipher w (nr (a .size)) (bytesOf (a .b))) (scheduled (c .before .before .before .before .before))
+    ∙ ap (λ (d : Direction). aes d (a .size) (keyBytes (a .size) (a .key)) (bytesOf (a .b))) (sym (c .before .before .before .enum-told2 .given .1))
 
 pub cipher-block-spec : {M : Type 1} → statement M
 cipher-block-spec =
@@ -59,6 +59,6 @@ cipher-block-spec =
     enum-told
     encrypt-block-with-requires
     enum-told-2
-    decrypt-block-requires
+    decrypt-block-with-requires
     returns
     returns-2)

@@ -30,8 +30,8 @@ encrypt-blocks-with-requires c κs = search needs
 enum-told-2 : tie.Need-enum-told-2
 enum-told-2 c = search needs
 
-decrypt-blocks-requires : tie.Need-decrypt-blocks-requires
-decrypt-blocks-requires c κs = search needs
+decrypt-blocks-with-requires : tie.Need-decrypt-blocks-with-requires
+decrypt-blocks-with-requires c κs = c .before .before .before .before .before .before .before .pre .1
 
 same-length : tie.Need-same-length
 same-length c = search needs
@@ -42,13 +42,13 @@ scheduled c = schedule-stored (c .before .before .args .size) (c .before .before
 returns : tie.Need-returns
 unfolding encrypt
 returns c =
-    let st = c .before .before .before .before .before .before .before .before .before in
+    let st = c .before .before .before .before .before .before .before .before .before .before in
     let a = st .args in
     let s = a .bytes .now in
     c .before .before .encrypt-blocks-with .ensures
-    ∙ blocks-by _ _ (st .pre .0) (st .pre .1) (a .size) (c .before .before .before .before .before .before .before .expand-with .result) (length s / 16) s (λ i. omega (arith, c .before .before .before .before .before .before .before .before .slice-known .given i))
-    ∙ ap (λ (w : List ℕ). mapBlocks (cipher w (nr (a .size))) (length s / 16) s) (scheduled (c .before .before .before .before .before .before .before))
-    ∙ ap (λ (d : Direction). mapBlocks (aes d (a .size) (keyBytes (a .size) (a .key))) (length s / 16) s) (sym (c .before .before .before .before .before .enum-told .given .1))
+    ∙ blocks-by _ _ (st .pre .0) (st .pre .1) (a .size) (c .before .before .before .before .before .before .before .before .expand-with .result) (length s / 16) s (λ i. omega (arith, c .before .before .before .before .before .before .before .before .before .slice-known .given i))
+    ∙ ap (λ (w : List ℕ). mapBlocks (cipher w (nr (a .size))) (length s / 16) s) (scheduled (c .before .before .before .before .before .before .before .before))
+    ∙ ap (λ (d : Direction). mapBlocks (aes d (a .size) (keyBytes (a .size) (a .key))) (length s / 16) s) (sym (c .before .before .before .before .before .before .enum-told .given .1))
 
 same-length-2 : tie.Need-same-length-2
 same-length-2 c = search needs
@@ -56,11 +56,11 @@ same-length-2 c = search needs
 returns-2 : tie.Need-returns-2
 unfolding decrypt
 returns-2 c =
-    let a = c .before .before .before .before .before .before .before .before .before .args in
+    let a = c .before .before .before .before .before .before .before .before .before .before .args in
     let s = a .bytes .now in
-    c .before .before .decrypt-blocks .ensures
-    ∙ ap (λ (w : List ℕ). mapBlocks (invCipher w (nr (a .size))) (length s / 16) s) (scheduled (c .before .before .before .before .before .before .before))
-    ∙ ap (λ (d : Direction). mapBlocks (aes d (a .size) (keyBytes (a .size) (a .key))) (length s / 16) s) (sym (c .before .before .before .before .before .enum-told2 .given .1))
+    c .before .before .decrypt-blocks-with .ensures
+    ∙ ap (λ (w : List ℕ). mapBlocks (invCipher w (nr (a .size))) (length s / 16) s) (scheduled (c .before .before .before .before .before .before .before .before))
+    ∙ ap (λ (d : Direction). mapBlocks (aes d (a .size) (keyBytes (a .size) (a .key))) (length s / 16) s) (sym (c .before .before .before .before .before .before .enum-told2 .given .1))
 
 pub cipher-blocks-spec : {M : Type 1} → statement M
 cipher-blocks-spec =
@@ -70,7 +70,7 @@ cipher-blocks-spec =
     enum-told
     encrypt-blocks-with-requires
     enum-told-2
-    decrypt-blocks-requires
+    decrypt-blocks-with-requires
     same-length
     returns
     same-length-2
