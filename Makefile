@@ -7,6 +7,7 @@
 # make test-decoder  compare the proved decoder with GNU objdump, on about two million strings
 # make test-machine  compare the proved machine with the model in Python, on 20,000 random calls
 # make test-host, test-valgrind, test-faults, test-stack  compare the C library with a model in C, and run it on a small stack; tests/host/rules.mk says how
+# make test-constants  which tables stand in the library, and how many bytes of read-only data
 # make test-simulator  the simulator on traces that the model in Python checks, the installed files, and the examples for C
 # make clean     remove build/; what rt made is in target/
 
@@ -24,7 +25,7 @@ WRAPPING = keywrap_bytes keywrap_ttables $(BASELINE)
 KEYWRAP = keywrap $(WRAPPING)
 KEYLOCKER = keylocker $(WRAPPING)
 
-.PHONY: all install demo bench examples test test-decoder test-machine test-simulator clean always
+.PHONY: all install demo bench examples test test-decoder test-machine test-constants test-simulator clean always
 
 all: build/libkeylocker.a build/keylocker.pc build/keylocker-simulator
 
@@ -63,6 +64,9 @@ install: all
 
 demo: build/keylocker-simulator
 	@./build/keylocker-simulator
+
+test-constants: build/libkeylocker.a
+	python3 tests/constants.py $<
 
 test-simulator: all
 	python3 tests/traces.py

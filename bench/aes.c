@@ -198,7 +198,8 @@ static const struct bar bars[] = {
     {"key schedule", 0, BYTES, 0.60},
 };
 
-// The key schedule's bar is against figure 11 as FIPS 197 prints it. There is a faster byte-wise form,
+// One block deciphered alone misses the first, as its inverse S-box is computed for it (docs/DECISIONS.md,
+// "Speed"). The key schedule's bar is against figure 11 as FIPS 197 prints it. There is a faster byte-wise form,
 // and the proved one is not 0.6 of that: so both are shown.
 static double key_expansion_ns(void (*expand)(uint8_t, const uint8_t *, uint32_t *), uint8_t size)
 {

@@ -29,10 +29,10 @@
 #include <stddef.h>
 #include <stdint.h>
 
-#define KEYLOCKER_VERSION "1.2.0"
+#define KEYLOCKER_VERSION "1.2.1"
 
 /* bytes of stack that a call needs at most */
-#define KEYLOCKER_STACK_SIZE 8192
+#define KEYLOCKER_STACK_SIZE 7168
 
 #ifdef __cplusplus
 extern "C" {

@@ -1,7 +1,7 @@
 // The inverse S-box. It is not stored: each byte is put where the S-box sends it.
 ghost use mathlib.Core.Path.{_≡_};
 ghost use Prim.Native.Nat.{_<_};
-ghost use Rattle.fips197.specs.Sbox.{sbox, invSbox, TableOf};
+ghost use Rattle.fips197.specs.Sbox.{invSbox, TableOf, SboxTable};
 
 fn place(x: u8) -> usize
     ensures { λ r. ⌜ (r ≡ x) × (r < 256) ⌝ }
@@ -10,16 +10,16 @@ fn place(x: u8) -> usize
 }
 
 // From a lent S-box.
-pub fn inverse_table(t: &[u8; 256]) -> [u8; 256]
-    requires { ⌜ TableOf sbox (now t) ⌝ }
+pub fn inverse_table(sbox: &[u8; 256]) -> [u8; 256]
+    requires { ⌜ SboxTable (now sbox) ⌝ }
     ensures { λ r. ⌜ TableOf invSbox r ⌝ }
 {
-    let mut r = [0u8; 256];
+    let mut inverse = [0u8; 256];
     let mut i: usize = 0;
     while i < 256 {
-        let at = place(t[i]);
-        r[at] = i as u8;
+        let at = place(sbox[i]);
+        inverse[at] = i as u8;
         i += 1;
     }
-    r
+    inverse
 }

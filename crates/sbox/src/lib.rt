@@ -1,5 +1,5 @@
-// The S-box of FIPS 197 and its inverse, the only tables that are stored. A `const` is copied in every function that names it:
-// callers make one of these a local at their entry and lend it down.
+// The S-box of FIPS 197, the only table that is stored. A `const` is copied in every function that names it: callers make it a local at
+// their entry and lend it down.
 ghost use Rattle.fips197.specs.Sbox.{sbox, TableOf};
 
 pub mod inverse;

@@ -33,11 +33,11 @@ element-copy-out-place c = search needs
 place-requires : tie.Need-place-requires Inv-loop μ-loop
 place-requires c κs = search needs
 
-cast-r : tie.Need-cast-r Inv-loop μ-loop
-cast-r c = search needs
+cast-inverse : tie.Need-cast-inverse Inv-loop μ-loop
+cast-inverse c = search needs
 
-array-write-r : tie.Need-array-write-r Inv-loop μ-loop
-array-write-r c = search needs
+array-write-inverse : tie.Need-array-write-inverse Inv-loop μ-loop
+array-write-inverse c = search needs
 
 add-i : tie.Need-add-i Inv-loop μ-loop
 add-i c = search needs
@@ -48,7 +48,7 @@ loop-less c = search needs
 loop-again : tie.Need-loop-again Inv-loop μ-loop
 loop-again c =
     let at-loop = c .before .before .before in
-    let r = at-loop .loop .r in
+    let r = at-loop .loop .inverse in
     let i = at-loop .loop .i in
     let x = c .place .result in
     let inside : i < 256 = omega arith in
@@ -65,7 +65,7 @@ loop-again c =
 
 returns : tie.Need-returns Inv-loop μ-loop
 returns c b h =
-    ap (λ (y : ℕ). getD (c .before .loop .r) y 0) (sym (sbox-inv b h)) ∙ c .before .loop .inv .2 (invSbox b) (omega (arith, invSbox-byte b))
+    ap (λ (y : ℕ). getD (c .before .loop .inverse) y 0) (sym (sbox-inv b h)) ∙ c .before .loop .inv .2 (invSbox b) (omega (arith, invSbox-byte b))
 
 pub inverse-table-spec : {M : Type 1} → statement M
 inverse-table-spec =
@@ -76,8 +76,8 @@ inverse-table-spec =
     loop-holds
     element-copy-out-place
     place-requires
-    cast-r
-    array-write-r
+    cast-inverse
+    array-write-inverse
     add-i
     loop-less
     loop-again
