@@ -30,8 +30,7 @@ use sbox::inverse::inverse_table;
 
 // InvShiftRows, InvSubBytes and InvMixColumns at once.
 fn inv_shift_sub_mix(mixed: &[u32; 256], s: Block) -> Block
-    requires { ⌜ InvMixedTable (now mixed) ⌝ }
-    ensures { λ r. ⌜ bytesOf r ≡ invMixColumns (invSubBytes (invShiftRows (bytesOf s))) ⌝ }
+    ensures { λ r. ⌜ (InvMixedTable (now (mixed .entry)) → bytesOf r ≡ invMixColumns (invSubBytes (invShiftRows (bytesOf s)))) ⌝ }
 {
     Block {
         a: table_column(mixed, s.a, s.d, s.c, s.b),
@@ -58,8 +57,7 @@ fn inv_mixed_keys(w: &[u32; 60], n: usize) -> [u32; 60]
 
 // A round of the equivalent inverse cipher: its key comes after InvMixColumns.
 fn table_inv_round(mixed: &[u32; 256], s: Block, k: Block) -> Block
-    requires { ⌜ InvMixedTable (now mixed) ⌝ }
-    ensures { λ r. ⌜ bytesOf r ≡ addRoundKey (invMixColumns (invSubBytes (invShiftRows (bytesOf s)))) (bytesOf k) ⌝ }
+    ensures { λ r. ⌜ (InvMixedTable (now (mixed .entry)) → bytesOf r ≡ addRoundKey (invMixColumns (invSubBytes (invShiftRows (bytesOf s)))) (bytesOf k)) ⌝ }
 {
     add_round_key(inv_shift_sub_mix(mixed, s), k)
 }
@@ -72,11 +70,9 @@ fn table_inv_cipher(
     n: usize,
     b: Block,
 ) -> Block
-    requires { ⌜ InvMixedTable (now mixed) ⌝ }
-    requires { ⌜ InvSboxTable (now inverse) ⌝ }
     requires { ⌜ InvMixed (now w) (4 * n) (now dw) ⌝ }
     requires { ⌜ (1 ≤ n) × (n ≤ 14) ⌝ }
-    ensures { λ r. ⌜ bytesOf r ≡ invCipher (leWords 4 (now (w .entry))) n (bytesOf b) ⌝ }
+    ensures { λ r. ⌜ (InvMixedTable (now (mixed .entry)) → InvSboxTable (now (inverse .entry)) → bytesOf r ≡ invCipher (leWords 4 (now (w .entry))) n (bytesOf b)) ⌝ }
 {
     let mut s = add_round_key(b, round_key(w, n));
     let mut i: usize = n - 1;
@@ -97,10 +93,8 @@ fn decrypt_blocks_by(
     w: &[u32; 60],
     bytes: &mut [u8],
 )
-    requires { ⌜ InvMixedTable (now mixed) ⌝ }
-    requires { ⌜ InvSboxTable (now inverse) ⌝ }
     requires { ⌜ InvMixed (now w) (4 * nr size) (now dw) ⌝ }
-    ensures { λ _. ⌜ now (bytes .exit) ≡ mapBlocks (invCipher (schedule size (now (w .entry))) (nr size)) (length (now (bytes .entry)) / 16) (now (bytes .entry)) ⌝ }
+    ensures { λ _. ⌜ (InvMixedTable (now (mixed .entry)) → InvSboxTable (now (inverse .entry)) → now (bytes .exit) ≡ mapBlocks (invCipher (schedule size (now (w .entry))) (nr size)) (length (now (bytes .entry)) / 16) (now (bytes .entry))) ⌝ }
 {
     let n = rounds(size);
     let count = bytes.len() / 16;
@@ -113,7 +107,8 @@ fn decrypt_blocks_by(
     }
 }
 
-// Every whole block of the bytes, by a lent S-box; what is left at the end stays. The table is made in `mixed`, whatever that held.
+// Every whole block of the bytes, by a lent table, if it is the S-box; what is left at the end stays. The table of the inverse cipher is made in `mixed`,
+// whatever that held.
 pub fn decrypt_blocks_with(
     sbox: &[u8; 256],
     mixed: &mut [u32; 256],
@@ -121,8 +116,7 @@ pub fn decrypt_blocks_with(
     w: &[u32; 60],
     bytes: &mut [u8],
 )
-    requires { ⌜ SboxTable (now sbox) ⌝ }
-    ensures { λ _. ⌜ now (bytes .exit) ≡ mapBlocks (invCipher (schedule size (now (w .entry))) (nr size)) (length (now (bytes .entry)) / 16) (now (bytes .entry)) ⌝ }
+    ensures { λ _. ⌜ (SboxTable (now (sbox .entry)) → now (bytes .exit) ≡ mapBlocks (invCipher (schedule size (now (w .entry))) (nr size)) (length (now (bytes .entry)) / 16) (now (bytes .entry))) ⌝ }
 {
     let whole = *mixed;
     has_length(whole);
@@ -148,8 +142,7 @@ fn inv_mix_by(products: &[u32; 256], s: Block) -> Block
 
 fn inv_round_by(products: &[u32; 256], inverse: &[u8; 256], s: Block, k: Block) -> Block
     requires { ⌜ Products invMixRow 256 (now products) ⌝ }
-    requires { ⌜ InvSboxTable (now inverse) ⌝ }
-    ensures { λ r. ⌜ bytesOf r ≡ invRound (bytesOf s) (bytesOf k) ⌝ }
+    ensures { λ r. ⌜ (InvSboxTable (now (inverse .entry)) → bytesOf r ≡ invRound (bytesOf s) (bytesOf k)) ⌝ }
 {
     inv_mix_by(products, inv_final_round(inverse, s, k))
 }
@@ -162,9 +155,8 @@ fn inv_cipher_by(
     b: Block,
 ) -> Block
     requires { ⌜ Products invMixRow 256 (now products) ⌝ }
-    requires { ⌜ InvSboxTable (now inverse) ⌝ }
     requires { ⌜ (1 ≤ n) × (n ≤ 14) ⌝ }
-    ensures { λ r. ⌜ bytesOf r ≡ invCipher (leWords 4 (now (w .entry))) n (bytesOf b) ⌝ }
+    ensures { λ r. ⌜ (InvSboxTable (now (inverse .entry)) → bytesOf r ≡ invCipher (leWords 4 (now (w .entry))) n (bytesOf b)) ⌝ }
 {
     let mut s = add_round_key(b, round_key(w, n));
     let mut i: usize = n - 1;
@@ -176,7 +168,7 @@ fn inv_cipher_by(
     inv_final_round(inverse, s, round_key(w, 0))
 }
 
-// By a lent S-box, with the products made in `products`, whatever that held. The first is stored here: told of it, `inv_products` would be compiled into
+// By a lent table, if it is the S-box, with the products made in `products`, whatever that held. The first is stored here: told of it, `inv_products` would be compiled into
 // constants (docs/DECISIONS.md, 73).
 pub fn decrypt_block_with(
     sbox: &[u8; 256],
@@ -185,8 +177,7 @@ pub fn decrypt_block_with(
     w: &[u32; 60],
     b: Block,
 ) -> Block
-    requires { ⌜ SboxTable (now sbox) ⌝ }
-    ensures { λ r. ⌜ bytesOf r ≡ invCipher (schedule size (now (w .entry))) (nr size) (bytesOf b) ⌝ }
+    ensures { λ r. ⌜ (SboxTable (now (sbox .entry)) → bytesOf r ≡ invCipher (schedule size (now (w .entry))) (nr size) (bytesOf b)) ⌝ }
 {
     let whole = *products;
     has_length(whole);

@@ -4,10 +4,9 @@ ghost use mathlib.Core.List.{List};
 ghost use Prim.Native.Nat.{ℕ, _*_, _^_, _≤_};
 ghost use lib.ListN.{length, getD};
 ghost use Rattle.bits.specs.Words.{leBytes};
-ghost use Rattle.fips197.specs.Sbox.{InvSboxTable};
 ghost use Rattle.fips197.specs.InvCipher.{invMixRow};
-ghost use Rattle.aes_blocks.specs.Tables.{part};
-ghost use Rattle.aes_inv_blocks.specs.Tables.{Products, InvMixedTable};
+ghost use Rattle.aes_blocks.specs.Tables.{part, MixTable};
+ghost use Rattle.aes_inv_blocks.specs.Tables.{Products};
 use aes::mix::inv_mix_column;
 
 // The products with k and the bytes that follow up to 2 k: sums of two, as k is a power of two.
@@ -47,11 +46,10 @@ fn product(products: &[u32; 256], s: u8) -> u32
     products[s as usize]
 }
 
-// By products looked up, which takes less time here than making them.
+// For any table of bytes. By products looked up, which takes less time here than making them.
 pub(crate) fn inv_mix_table(inverse: &[u8; 256], mixed: &mut [u32; 256])
-    requires { ⌜ InvSboxTable (now inverse) ⌝ }
     requires { ⌜ length (now mixed) ≡ 256 ⌝ }
-    ensures { λ _. ⌜ InvMixedTable (now (mixed .exit)) ⌝ }
+    ensures { λ _. ⌜ MixTable invMixRow (λ i. getD (now (inverse .entry)) i 0) 256 (now (mixed .exit)) ⌝ }
 {
     let mut products = [0u32; 256];
     inv_products(&mut products);

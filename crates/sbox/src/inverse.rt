@@ -9,10 +9,9 @@ fn place(x: u8) -> usize
     x as usize
 }
 
-// From a lent S-box.
+// From a lent table, if it is the S-box.
 pub fn inverse_table(sbox: &[u8; 256]) -> [u8; 256]
-    requires { ⌜ SboxTable (now sbox) ⌝ }
-    ensures { λ r. ⌜ TableOf invSbox r ⌝ }
+    ensures { λ r. ⌜ (SboxTable (now (sbox .entry)) → TableOf invSbox r) ⌝ }
 {
     let mut inverse = [0u8; 256];
     let mut i: usize = 0;

@@ -16,7 +16,7 @@ inv-products-requires : tie.Need-inv-products-requires
 inv-products-requires c κs = search needs
 
 inverse-table-requires : tie.Need-inverse-table-requires
-inverse-table-requires c κs = c .before .before .before .before .pre
+inverse-table-requires c κs = search needs
 
 rounds-requires : tie.Need-rounds-requires
 rounds-requires c κs = search needs
@@ -25,12 +25,12 @@ inv-cipher-by-requires : tie.Need-inv-cipher-by-requires
 inv-cipher-by-requires c κs =
     let few = rounds-few (c .before .before .before .before .before .before .before .before .args .size) in
     let e = c .rounds .ensures in
-    (c .before .before .before .before .inv-products .ensures, (c .before .before .before .inverse-table .ensures, (omega arith, omega arith)))
+    (c .before .before .before .before .inv-products .ensures, (omega arith, omega arith))
 
 returns : tie.Need-returns
-returns c =
+returns c rule =
     let st = c .before .before .before .before .before .before .before .before .before in
-    c .inv-cipher-by .ensures ∙ inv-cipher-schedule (st .args .size) (st .args .w .now) (c .before .rounds .ensures) (bytesOf (st .args .b))
+    c .inv-cipher-by .ensures (c .before .before .before .before .inverse-table .ensures rule) ∙ inv-cipher-schedule (st .args .size) (st .args .w .now) (c .before .rounds .ensures) (bytesOf (st .args .b))
 
 pub decrypt-block-with-spec : {M : Type 1} → statement M
 decrypt-block-with-spec =

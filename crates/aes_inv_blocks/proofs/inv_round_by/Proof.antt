@@ -14,10 +14,10 @@ inv-mix-by-requires c κs = search needs
 
 returns : tie.Need-returns
 unfolding invRound
-returns c =
+returns c rule =
     let st = c .before .before in
     c .inv-mix-by .ensures
-    ∙ ap invMixColumns (c .before .inv-final-round .ensures ∙ inv-final-round-by (st .args .inverse .now) (bytesOf (st .args .s)) (bytesOf (st .args .k)) (block-bytes (st .args .s)) (st .pre .1))
+    ∙ ap invMixColumns (c .before .inv-final-round .ensures ∙ inv-final-round-by (st .args .inverse .now) (bytesOf (st .args .s)) (bytesOf (st .args .k)) (block-bytes (st .args .s)) rule)
 
 pub inv-round-by-spec : {M : Type 1} → statement M
 inv-round-by-spec = tie.close (tie.spec inv-final-round-requires inv-mix-by-requires returns)

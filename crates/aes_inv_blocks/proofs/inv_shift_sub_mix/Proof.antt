@@ -23,10 +23,10 @@ table-column-requires-4 c κs = search needs
 
 returns : tie.Need-returns
 unfolding mixed invMixColumns mixBy invShiftRows invSubBytes
-returns c =
+returns c rule =
     let st = c .before .before .before .before in
     let s = st .args .s in
-    let by = diagonal-by invMixRow invSbox (st .args .mixed .now) (st .pre) in
+    let by = diagonal-by invMixRow invSbox (st .args .mixed .now) rule in
     four (c .before .before .before .table-column .ensures ∙ by (s .a) (s .d) (s .c) (s .b)) (c .before .before .table-column2 .ensures ∙ by (s .b) (s .a) (s .d) (s .c))
     (c .before .table-column3 .ensures ∙ by (s .c) (s .b) (s .a) (s .d)) (c .table-column4 .ensures ∙ by (s .d) (s .c) (s .b) (s .a))
 

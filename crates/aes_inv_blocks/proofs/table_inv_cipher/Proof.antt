@@ -9,12 +9,13 @@ use Rattle.fips197.specs.InvCipher.{invRounds}
 use Rattle.aes.specs.Meaning.{bytesOf}
 use Rattle.aes.proofs.Rounds.{inv-rounds-more, inv-cipher-ends}
 use Rattle.aes.proofs.Tables.{block-bytes}
+use Rattle.aes_inv_blocks.specs.Tables.{InvMixedTable}
 use Rattle.aes_inv_blocks.proofs.Equivalent.{equivalent-round}
 use Rattle.aes_inv_blocks.proofs.table_inv_cipher.Statement.{statement}
 use Rattle.aes_inv_blocks.proofs.table_inv_cipher.Tie as tie
 
 abbrev Inv-loop : tie.InvT-loop
-Inv-loop mixed inverse w dw n s₀ i₀ s i = (i < n) × (invRounds (leWords 4 w) i (bytesOf s) ≡ invRounds (leWords 4 w) (n - 1) (bytesOf s₀))
+Inv-loop mixed inverse w dw n s₀ i₀ s i = (i < n) × (InvMixedTable mixed → invRounds (leWords 4 w) i (bytesOf s) ≡ invRounds (leWords 4 w) (n - 1) (bytesOf s₀))
 
 abbrev μ-loop : tie.MeasureT-loop
 μ-loop mixed inverse w dw n s₀ i₀ s i = i
@@ -29,7 +30,7 @@ sub-i : tie.Need-sub-i Inv-loop μ-loop
 sub-i c = search needs
 
 loop-holds : tie.Need-loop-holds Inv-loop μ-loop
-loop-holds c = (search needs, refl)
+loop-holds c = (search needs, λ rule. refl)
 
 round-key-requires-2 : tie.Need-round-key-requires-2 Inv-loop μ-loop
 round-key-requires-2 c κs = search needs
@@ -49,9 +50,10 @@ loop-again c =
     let st = at-loop .before .before .before in
     let s = bytesOf (at-loop .loop .s) in (
       omega arith,
-      inv-rounds-more (leWords 4 (st .args .w .now)) (at-loop .loop .i) s (omega arith) (at-loop .loop .inv .1) refl
-          (equivalent-round (st .args .w .now) (st .args .dw .now) (st .args .n) (at-loop .loop .i) (at-loop .loop .inv .0) (st .pre .1 .1 .0) s (c .before .round-key2 .ensures)
-          (c .table-inv-round .ensures)),
+      λ rule.
+          inv-rounds-more (leWords 4 (st .args .w .now)) (at-loop .loop .i) s (omega arith) (at-loop .loop .inv .1 rule) refl
+          (equivalent-round (st .args .w .now) (st .args .dw .now) (st .args .n) (at-loop .loop .i) (at-loop .loop .inv .0) (st .pre .0) s (c .before .round-key2 .ensures)
+          (c .table-inv-round .ensures rule)),
     )
 
 round-key-requires-3 : tie.Need-round-key-requires-3 Inv-loop μ-loop
@@ -61,11 +63,11 @@ inv-final-round-requires : tie.Need-inv-final-round-requires Inv-loop μ-loop
 inv-final-round-requires c κs = search needs
 
 returns : tie.Need-returns Inv-loop μ-loop
-returns c =
+returns c mix-rule rule =
     let at-loop = c .before .before .before in
     let st = at-loop .before .before .before in
-    inv-cipher-ends _ (st .args .inverse .now) (st .pre .1 .0) (st .args .n) (at-loop .loop .i) _ _ (block-bytes (at-loop .loop .s)) (omega arith) (at-loop .before .before .round-key .ensures)
-    (at-loop .before .add-round-key .ensures) (at-loop .loop .inv .1) (c .before .round-key3 .ensures) (c .inv-final-round .ensures)
+    inv-cipher-ends _ (st .args .inverse .now) rule (st .args .n) (at-loop .loop .i) _ _ (block-bytes (at-loop .loop .s)) (omega arith) (at-loop .before .before .round-key .ensures)
+    (at-loop .before .add-round-key .ensures) (at-loop .loop .inv .1 mix-rule) (c .before .round-key3 .ensures) (c .inv-final-round .ensures)
 
 pub table-inv-cipher-spec : {M : Type 1} → statement M
 table-inv-cipher-spec =

@@ -14,7 +14,7 @@ add-round-key-requires : tie.Need-add-round-key-requires
 add-round-key-requires c κs = search needs
 
 returns : tie.Need-returns
-returns c = c .add-round-key .ensures ∙ ap (λ (s : List ℕ). addRoundKey s (bytesOf (c .before .before .args .k))) (c .before .inv-shift-sub-mix .ensures)
+returns c rule = c .add-round-key .ensures ∙ ap (λ (s : List ℕ). addRoundKey s (bytesOf (c .before .before .args .k))) (c .before .inv-shift-sub-mix .ensures rule)
 
 pub table-inv-round-spec : {M : Type 1} → statement M
 table-inv-round-spec =

@@ -28,7 +28,7 @@ enum-told-2 : tie.Need-enum-told-2
 enum-told-2 c = search needs
 
 decrypt-block-with-requires : tie.Need-decrypt-block-with-requires
-decrypt-block-with-requires c κs = c .before .before .before .before .before .pre .1
+decrypt-block-with-requires c κs = search needs
 
 scheduled : (c : tie.After-expand-with) → schedule (c .before .args .size) (c .expand-with .result) ≡ keyExpansion (nk (c .before .args .size)) (keyBytes (c .before .args .size) (c .before .args .key))
 scheduled c = schedule-stored (c .before .args .size) (c .before .args .key) (c .expand-with .result) (c .expand-with .ensures)
@@ -46,8 +46,9 @@ returns c =
 returns-2 : tie.Need-returns-2
 unfolding decrypt
 returns-2 c =
-    let a = c .before .before .before .before .before .before .args in
-    c .decrypt-block-with .ensures
+    let st = c .before .before .before .before .before .before in
+    let a = st .args in
+    c .decrypt-block-with .ensures (st .pre .1)
     ∙ ap (λ (w : List ℕ). invCipher w (nr (a .size)) (bytesOf (a .b))) (scheduled (c .before .before .before .before .before))
     ∙ ap (λ (d : Direction). aes d (a .size) (keyBytes (a .size) (a .key)) (bytesOf (a .b))) (sym (c .before .before .before .enum-told2 .given .1))
 

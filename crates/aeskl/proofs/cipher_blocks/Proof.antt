@@ -31,7 +31,7 @@ enum-told-2 : tie.Need-enum-told-2
 enum-told-2 c = search needs
 
 decrypt-blocks-with-requires : tie.Need-decrypt-blocks-with-requires
-decrypt-blocks-with-requires c κs = c .before .before .before .before .before .before .before .pre .1
+decrypt-blocks-with-requires c κs = search needs
 
 same-length : tie.Need-same-length
 same-length c = search needs
@@ -56,9 +56,10 @@ same-length-2 c = search needs
 returns-2 : tie.Need-returns-2
 unfolding decrypt
 returns-2 c =
-    let a = c .before .before .before .before .before .before .before .before .before .before .args in
+    let st = c .before .before .before .before .before .before .before .before .before .before in
+    let a = st .args in
     let s = a .bytes .now in
-    c .before .before .decrypt-blocks-with .ensures
+    c .before .before .decrypt-blocks-with .ensures (st .pre .1)
     ∙ ap (λ (w : List ℕ). mapBlocks (invCipher w (nr (a .size))) (length s / 16) s) (scheduled (c .before .before .before .before .before .before .before .before))
     ∙ ap (λ (d : Direction). mapBlocks (aes d (a .size) (keyBytes (a .size) (a .key))) (length s / 16) s) (sym (c .before .before .before .before .before .before .enum-told2 .given .1))
 

@@ -1,6 +1,6 @@
 -- The entries below i are right; the measure is the entries left.
 -- Assumes nothing.
-use mathlib.Core.Path.{_≡_, refl, ap, _∙_}
+use mathlib.Core.Path.{_≡_, refl, _∙_}
 use Prim.Native.Nat.{ℕ, _-_, _≤_, _<_}
 use native.Mathlib.Omega.{arith}
 use borrow.Author.Count.{below-none}
@@ -58,8 +58,7 @@ loop-again c =
     )
 
 returns : tie.Need-returns Inv-loop μ-loop
-returns c k h =
-    c .before .loop .inv .2 k (omega arith) ∙ ap (λ (s : ℕ). part invMixRow s 0) (c .before .before .before .before .pre .0 k h)
+returns c k h = c .before .loop .inv .2 k (omega arith)
 
 pub inv-mix-table-spec : {M : Type 1} → statement M
 inv-mix-table-spec =
