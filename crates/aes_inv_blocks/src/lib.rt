@@ -168,8 +168,8 @@ fn inv_cipher_by(
     inv_final_round(inverse, s, round_key(w, 0))
 }
 
-// By a lent table, if it is the S-box, with the products made in `products`, whatever that held. The first is stored here: told of it, `inv_products` would be compiled into
-// constants (docs/DECISIONS.md, 73).
+// By a lent table, if it is the S-box. The products are made in `products`, whatever that held; the first is stored here: told of it, `inv_products` would be
+// compiled into constants (docs/DECISIONS.md, 73).
 pub fn decrypt_block_with(
     sbox: &[u8; 256],
     products: &mut [u32; 256],
