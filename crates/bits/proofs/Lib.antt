@@ -5,3 +5,4 @@ pub mod Xor
 pub mod Words
 pub mod Blocks
 pub mod Field
+pub mod Runs

@@ -8,7 +8,7 @@ use native.Mathlib.Nat.{add-zero}
 use native.Mathlib.Numerals.{add-one, add-two, add-three}
 use native.Mathlib.Omega.{arith}
 use lib.Dec.{T, eqb, eqb→eq, lit<}
-use lib.ListN.{length, getD, set, take, drop, length-drop, length-append}
+use lib.ListN.{length, getD, set, take, drop, length-drop, length-append, replicate}
 use lib.Seq.{sets, take-add, drop-drop, getD-drop, take-suc, getD-set-same, getD-set-other}
 use borrow.Author.Count.{below-more}
 use borrow.Author.Tests.{eq-eqb}
@@ -104,3 +104,9 @@ filled P l i x h rule new =
     below-more (λ k. P k (getD (set l i x) k 0)) i
     (λ k p. subst (P k) (sym (getD-set-other l i k x 0 (λ e. omega arith))) (rule k p))
     (subst (P i) (sym (getD-set-same l i x 0 h)) new)
+
+-- zeros, and what is read behind them
+pub zeros-at : (n i : ℕ) → _≡_ {A = ℕ} (getD (replicate n 0) i 0) 0
+zeros-at zero i = refl
+zeros-at (suc n) zero = refl
+zeros-at (suc n) (suc i) = zeros-at n i

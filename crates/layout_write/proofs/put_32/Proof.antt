@@ -1,7 +1,8 @@
 -- Assumes nothing.
 use mathlib.Core.Path.{refl}
 use borrow.Author.Needs.{needs}
-use Rattle.layout_write.proofs.Write.{writing, unwritten, writing-more, writing-all}
+use Rattle.bits.proofs.Runs.{writing-more, writing-all}
+use Rattle.layout_write.proofs.Write.{writing, unwritten}
 use Rattle.layout_write.proofs.put_32.Statement.{statement}
 use Rattle.layout_write.proofs.put_32.Tie as tie
 
