@@ -1,0 +1,14 @@
+pub mod Walks
+pub mod Facts
+pub mod Counts
+pub mod Pigeonhole
+pub mod Inside
+pub mod Fuel
+pub mod Frames
+pub mod Finding
+pub mod Changes
+pub mod Replacing
+pub mod Filling
+pub mod Adding
+pub mod Capacity
+pub mod Examples
