@@ -1,0 +1,4 @@
+pub mod Marking
+pub mod Distinct
+pub mod Checking
+pub mod Fresh
