@@ -1,0 +1,4 @@
+pub mod Turns
+pub mod Filling
+pub mod Written
+pub mod Calls
