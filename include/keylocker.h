@@ -9,17 +9,20 @@
  *     ... registers are put into cpu, and for each instruction:
  *     answer = keylocker_step(machine, sizeof machine, 0, cpu, sizeof cpu, memory, memory_len, NULL, 0, string, string_len);
  *
- * Every call answers KEYLOCKER_DONE (0), or the number of the refusal that stopped it. A refused call writes nothing: the machine block, the CPU record
- * and the numbers that it would have answered with are as they were.
+ * Every call answers KEYLOCKER_DONE (0), or the number of the refusal that stopped it. A refused call writes nothing: the machine block, the CPU record,
+ * the keyring and what it would have answered with are as they were.
+ *
+ * A keyring, a block of its own, keeps handles by label. Its two calls take no machine.
  *
  * The caller need not check anything: every combination of arguments gets an answer. Lengths, contents and numbers are checked by the call, none is
  * assumed, and byte buffers need no alignment. What the caller owes is valid C, and stack:
  *   - behind each pointer at least as many bytes as the length says, and a number behind value, eax, ebx, ecx and edx; a null pointer only with length 0;
- *   - no two buffers of a call overlap (a string that lies in guest memory is copied first);
+ *     where a lookup is to put what it finds, a byte behind kind and KEYLOCKER_HANDLE_256_SIZE bytes behind handle;
+ *   - no two buffers of a call overlap, places for results included (a string that lies in guest memory is copied first);
  *   - no other thread uses a buffer while a call may write it;
  *   - below the caller's own frame KEYLOCKER_STACK_SIZE bytes of stack: no call goes deeper. Signal handlers on the same stack need theirs besides, and
  *     so does a dynamic linker that binds memcpy, memmove and memset at their first call, some 3 KiB; linked with -z now it binds them before.
- * The library keeps nothing between calls and allocates nothing, so different machines may be used by different threads at the same time.
+ * The library keeps nothing between calls and allocates nothing, so different machines and keyrings may be used by different threads at the same time.
  *
  * All integers in buffers are little-endian.
  */
@@ -29,9 +32,9 @@
 #include <stddef.h>
 #include <stdint.h>
 
-#define KEYLOCKER_VERSION "1.2.1"
+#define KEYLOCKER_VERSION "1.3.0"
 
-/* bytes of stack that a call needs at most */
+/* bytes of stack that a call needs at most; the keyring's two need about 1 KiB of it */
 #define KEYLOCKER_STACK_SIZE 7168
 
 #ifdef __cplusplus
@@ -136,6 +139,35 @@ extern "C" {
 #define KEYLOCKER_LOADIWKEY_NO_BACKUP 0x1
 #define KEYLOCKER_LOADIWKEY_RANDOM 0x2 /* key source 1 */
 
+/* ---- the keyring ----
+ *
+ * Handles by label, in records of KEYLOCKER_KEYRING_RECORD bytes, at least one and at most KEYLOCKER_KEYRING_LIMIT bytes of them. Record 0 has the heads of
+ * KEYLOCKER_KEYRING_HEADS chains, 2 bytes each, and then zeros. Every other record has the index of the next record of its chain (2 bytes), a kind, a zero
+ * byte, a label, and a handle with zeros behind it. Index 0 ends a chain. The low four bits of a label's first byte pick the chain that it belongs to. A
+ * record that no chain reaches is free, whatever it holds, but its next index, kind and zero byte are tested like those of the others.
+ *
+ * A block of zeros is an empty keyring; there is no call that makes one. One of n records takes n - 1 labels, one at the limit 818. It belongs to no
+ * machine. The host may read, copy and store it, and may write it if it keeps to this form: records of zeros behind it make room for more labels, and to
+ * take a label out is to lead its chain past its record.
+ *
+ * It keeps handles and does not look into them; whether one opens is for a use to find out. It is not authenticated: whoever writes it picks which handle
+ * a label gives. */
+#define KEYLOCKER_KEYRING_LIMIT 65520 /* 819 records */
+#define KEYLOCKER_KEYRING_RECORD 80
+#define KEYLOCKER_KEYRING_HEADS 16 /* head k is at 2 k */
+#define KEYLOCKER_LABEL_SIZE 12
+
+/* a record; record i is at KEYLOCKER_KEYRING_RECORD * i */
+#define KEYLOCKER_RECORD_NEXT 0
+#define KEYLOCKER_RECORD_KIND (KEYLOCKER_RECORD_NEXT + 2)
+#define KEYLOCKER_RECORD_ZERO (KEYLOCKER_RECORD_KIND + 1)
+#define KEYLOCKER_RECORD_LABEL (KEYLOCKER_RECORD_ZERO + 1)
+#define KEYLOCKER_RECORD_HANDLE (KEYLOCKER_RECORD_LABEL + KEYLOCKER_LABEL_SIZE)
+
+/* kinds: what the handle's size is */
+#define KEYLOCKER_KIND_128 0 /* KEYLOCKER_HANDLE_128_SIZE bytes */
+#define KEYLOCKER_KIND_256 1 /* KEYLOCKER_HANDLE_256_SIZE bytes */
+
 /* ---- answers: the first that applies, in this order ---- */
 #define KEYLOCKER_DONE 0
 #define KEYLOCKER_BAD_MACHINE 1   /* the block's length or contents; at power-on its length, the count (1 to 16) or the features */
@@ -156,6 +188,13 @@ extern "C" {
                                    * or written with bits 63:1 */
 #define KEYLOCKER_SS 13           /* #SS(0): a handle byte at an address that is not canonical, with RSP or RBP as the base */
 #define KEYLOCKER_PF 14           /* #PF: a handle byte outside memory */
+
+/* refusals of the keyring's calls, which meet none of those before and are the only ones to meet these */
+#define KEYLOCKER_BAD_KEYRING 15  /* the block's length; a head or any record's next index not below the number of records; a record that the heads reach
+                                   * twice; a byte behind the heads in record 0, or the zero byte of any other, not zero; a kind above 1 in any other;
+                                   * the length of label or handle */
+#define KEYLOCKER_NO_LABEL 16     /* lookup: no record of the label's chain has it */
+#define KEYLOCKER_KEYRING_FULL 17 /* adding a label that is not there: every record but 0 is on a chain */
 
 /* ---- the calls ---- */
 
@@ -239,6 +278,17 @@ uint32_t keylocker_sleep(uint8_t *machine, size_t machine_len, uint8_t code);
 
 /* As power-on, with the same count and features. */
 uint32_t keylocker_reset(uint8_t *machine, size_t machine_len);
+
+/* Finds the first record with the label on its chain, and gives its kind and its handle, a handle of 48 bytes with 16 zeros behind it. label_len is
+ * KEYLOCKER_LABEL_SIZE. *kind and all 64 bytes of handle are written where the answer is 0, and nothing else ever is. Answers 0, KEYLOCKER_BAD_KEYRING or
+ * KEYLOCKER_NO_LABEL. */
+uint32_t keylocker_keyring_lookup(const uint8_t *keyring, size_t keyring_len, const uint8_t *label, size_t label_len, uint8_t *kind,
+                                  uint8_t handle[KEYLOCKER_HANDLE_256_SIZE]);
+
+/* Puts a handle of 48 or 64 bytes in under a label of KEYLOCKER_LABEL_SIZE bytes; its length is what makes its kind. Where the label is there, handle and
+ * kind of the first record with it are replaced. Otherwise the free record of lowest index takes both, all 80 bytes of it are written, and it becomes
+ * the first of its chain. All other bytes stay. Answers 0, KEYLOCKER_BAD_KEYRING or KEYLOCKER_KEYRING_FULL. */
+uint32_t keylocker_keyring_add(uint8_t *keyring, size_t keyring_len, const uint8_t *label, size_t label_len, const uint8_t *handle, size_t handle_len);
 
 #ifdef __cplusplus
 }

@@ -1,2 +1,3 @@
 pub mod Finishing
 pub mod Executions
+pub mod Keyrings

@@ -10,6 +10,8 @@ use Rattle.model.specs.Calls.{PowerOn, StepCall, ReadCall, WriteCall, SettleCal
 use Rattle.model.specs.Lent.{Lent, powerOnLent, callLent}
 use Rattle.cpuid_model.specs.Calls.{CpuidCall, identifyLent}
 use Rattle.cpuid_model.specs.declared.Leaf.{Leaf}
+use Rattle.keyring_model.specs.Lookup.{lookupLent}
+use Rattle.keyring_model.specs.Add.{added, add}
 
 -- what a caller sees of an answer: the number returned, the CPU record at exit, the value read. No call is lent a buffer.
 abbrev pub answer : ℕ → List ℕ → ℕ → Answer
@@ -52,3 +54,12 @@ ResetPromise before after number = gave after number [] 0 ≡ callLent before re
 -- keylocker_cpuid: block and CPU record are lent shared, so they are the same at exit; the four registers, at entry and at exit
 abbrev pub CpuidPromise : List ℕ → CpuidCall → Leaf → Leaf → ℕ → Type 0
 CpuidPromise block c before after number = record { number = number; registers = after } ≡ identifyLent block c before
+
+-- keylocker_keyring_lookup: keyring and label are lent shared, so they are the same at exit; kind and handle, at entry and at exit
+abbrev pub KeyringLookupPromise : List ℕ → List ℕ → ℕ → List ℕ → ℕ → List ℕ → ℕ → Type 0
+KeyringLookupPromise keyring label kind handle kindAfter handleAfter number =
+    record { number = number; kind = kindAfter; handle = handleAfter } ≡ lookupLent keyring label kind handle
+
+-- keylocker_keyring_add: the whole block at exit
+abbrev pub KeyringAddPromise : List ℕ → List ℕ → List ℕ → List ℕ → ℕ → Type 0
+KeyringAddPromise before label handle after number = added number after ≡ add before label handle

@@ -3,7 +3,7 @@ ghost use mathlib.Core.Path.{_≡_};
 ghost use lib.ListN.{length};
 ghost use Rattle.model.specs.Layout.{machineSize};
 ghost use Rattle.keylocker.specs.Meaning.{called, finished};
-ghost use Rattle.keylocker.specs.Promises.{PowerOnPromise, StepPromise, ReadPromise, WritePromise, SettlePromise, SleepPromise, ResetPromise, CpuidPromise};
+ghost use Rattle.keylocker.specs.Promises.{PowerOnPromise, StepPromise, ReadPromise, WritePromise, SettlePromise, SleepPromise, ResetPromise, CpuidPromise, KeyringLookupPromise, KeyringAddPromise};
 use layout::read_machine;
 use layout_write::write_entry;
 use layout_write::write_machine;
@@ -176,5 +176,40 @@ pub extern "C" fn keylocker_cpuid(
             *edx = registers.edx;
             0
         }
+    }
+}
+
+// ---- keyrings: no machine is lent, and no refusal of a machine's call is theirs
+
+// Kind and handle are written only where the answer is 0.
+#[no_mangle]
+pub extern "C" fn keylocker_keyring_lookup(
+    keyring: &[u8],
+    label: &[u8],
+    kind: &mut u8,
+    handle: &mut [u8; 64],
+) -> u32
+    ensures { λ r. ⌜ KeyringLookupPromise (now (keyring .entry)) (now (label .entry)) (now (kind .entry)) (now (handle .entry)) (now (kind .exit)) (now (handle .exit)) r ⌝ }
+{
+    let x = keyring::lookup(keyring, label);
+    let bytes = x.handle;
+    let answer = x.answer;
+    match answer {
+        keyring::Answer::Refused(unfound) => unfound as u32,
+        keyring::Answer::Found(k) => {
+            *kind = k;
+            *handle = bytes;
+            0
+        }
+    }
+}
+
+#[no_mangle]
+pub extern "C" fn keylocker_keyring_add(keyring: &mut [u8], label: &[u8], handle: &[u8]) -> u32
+    ensures { λ r. ⌜ KeyringAddPromise (now (keyring .entry)) (now (label .entry)) (now (handle .entry)) (now (keyring .exit)) r ⌝ }
+{
+    match keyring::add(keyring, label, handle) {
+        keyring::Added::Refused(unadded) => unadded as u32,
+        keyring::Added::Done => 0,
     }
 }
