@@ -91,6 +91,21 @@ static void expect_cpuid(struct simulator *s, int place)
         say_answer(s);
 }
 
+static void expect_kind(struct simulator *s)
+{
+    uint64_t kind = take_number(&s->line, "the kind that a lookup gives", UINT8_MAX);
+    take_end(&s->line);
+    if (s->last.call != CALL_KEYRING_LOOKUP)
+        bad_line(&s->line, "expected a keyring lookup as the last call before 'expect kind'");
+    bool done = s->last.answer == KEYLOCKER_DONE;
+    if (!unmet(s, done && s->last.kind == kind))
+        return;
+    if (done)
+        printf("the kind is %u\n", s->last.kind);
+    else
+        say_answer(s);
+}
+
 static void expect_register(struct simulator *s, const struct field *field)
 {
     take_keyword(&s->line, "=");
@@ -103,7 +118,7 @@ static void expect_register(struct simulator *s, const struct field *field)
 
 static void expect_bytes(struct simulator *s)
 {
-    take_bytes(s, "done, refused, zf, value, eax, ebx, ecx, edx or bytes", &s->left);
+    take_bytes(s, "done, refused, zf, value, kind, eax, ebx, ecx, edx or bytes", &s->left);
     take_keyword(&s->line, "=");
     take_bytes(s, "bytes", &s->right);
     take_end(&s->line);
@@ -132,14 +147,16 @@ void run_expect(struct simulator *s)
     } else if (accept(&s->line, "done")) {
         expect_answer(s, KEYLOCKER_DONE);
     } else if (accept(&s->line, "refused")) {
-        uint64_t number = take_number(&s->line, "a refusal", KEYLOCKER_PF);
+        uint64_t number = take_number(&s->line, "a refusal", KEYLOCKER_KEYRING_FULL);
         if (number == KEYLOCKER_DONE)
-            bad_line(&s->line, "expected a refusal from 1 to %d; 0 is 'expect done'", KEYLOCKER_PF);
+            bad_line(&s->line, "expected a refusal from 1 to %d; 0 is 'expect done'", KEYLOCKER_KEYRING_FULL);
         expect_answer(s, (uint32_t)number);
     } else if (accept(&s->line, "zf")) {
         expect_zf(s);
     } else if (accept(&s->line, "value")) {
         expect_value(s);
+    } else if (accept(&s->line, "kind")) {
+        expect_kind(s);
     } else {
         const struct field *field = at_end(&s->line) ? NULL : register_named(s->line.words[s->line.next]);
         if (field == NULL) {

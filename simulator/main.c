@@ -27,7 +27,8 @@ static const char help[] =
     "Statements (simulator/TRACES.md has them all): power-on COUNT, cpu N loadiwkey KEY, cpu N encodekey128 KEY -> NAME,\n"
     "cpu N aesenc128kl HANDLE BLOCK -> NAME, cpu N step STRING, cpu N cpuid LEAF SUBLEAF, cpu N read REGISTER,\n"
     "cpu N write REGISTER VALUE, settle good|bad, sleep old|new|junk, reset,\n"
-    "expect done | refused NUMBER | zf BIT | value NUMBER | eax NUMBER | BYTES = BYTES.\n"
+    "keyring records N, keyring add LABEL HANDLE, keyring lookup LABEL -> NAME,\n"
+    "expect done | refused NUMBER | zf BIT | value NUMBER | kind NUMBER | eax NUMBER | BYTES = BYTES.\n"
     "\n"
     "Exit status: 0 if all went well, 1 if an expectation of the trace was not met, 2 for a bad trace or bad usage.\n";
 

@@ -157,6 +157,13 @@ static const char *refusal_words(enum call call, uint32_t number)
         return "#SS(0): the address of a handle byte in the stack segment is not canonical";
     case KEYLOCKER_PF:
         return "#PF: a handle byte lies outside memory";
+    case KEYLOCKER_BAD_KEYRING:
+        return call == CALL_KEYRING_ADD ? "these bytes are no keyring, the label has not 12 bytes, or the handle neither 48 nor 64"
+                                        : "these bytes are no keyring, or the label has not 12 bytes";
+    case KEYLOCKER_NO_LABEL:
+        return "no record of the label's chain has it";
+    case KEYLOCKER_KEYRING_FULL:
+        return "the label is not there, and every record but 0 is on a chain";
     default:
         return "an answer that this program does not know";
     }

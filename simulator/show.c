@@ -4,6 +4,7 @@
 #include <stdio.h>
 #include <string.h>
 
+#include "keyring.h"
 #include "print.h"
 #include "record.h"
 #include "value.h"
@@ -80,7 +81,7 @@ static void show_cpu(struct simulator *s)
 
 static void show_bytes(struct simulator *s)
 {
-    take_bytes(s, "machine or bytes", &s->left);
+    take_bytes(s, "machine, keyring or bytes", &s->left);
     take_end(&s->line);
     print_shown_statement(s);
     for (size_t i = 0; i < s->left.len; i += 32) {
@@ -95,9 +96,12 @@ void run_show(struct simulator *s)
     if (s->line.count == 2 && accept(&s->line, "machine")) {
         print_shown_statement(s);
         show_machine(s);
-        return;
+    } else if (s->line.count == 2 && accept(&s->line, "keyring")) {
+        print_shown_statement(s);
+        show_keyring(s);
+    } else {
+        show_bytes(s);
     }
-    show_bytes(s);
 }
 
 void run_cpu_show(struct simulator *s)

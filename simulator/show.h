@@ -1,4 +1,4 @@
-/* The machine and its processors in words. */
+/* The machine, its processors and the keyring in words. */
 #ifndef SHOW_H
 #define SHOW_H
 

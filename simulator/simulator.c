@@ -5,6 +5,7 @@
 
 #include "define.h"
 #include "expect.h"
+#include "keyring.h"
 #include "platform.h"
 #include "print.h"
 #include "processor.h"
@@ -21,6 +22,7 @@ void simulator_init(struct simulator *s, const char *file, bool quiet)
     fresh_cpus(s);
     bytes_reserve(&s->left, 1); // no null pointers, so that no bytes are copied and compared like others
     bytes_reserve(&s->right, 1);
+    bytes_reserve(&s->keyring, 1);
 }
 
 void simulator_free(struct simulator *s)
@@ -28,6 +30,7 @@ void simulator_free(struct simulator *s)
     names_free(&s->names);
     line_free(&s->line);
     bytes_free(&s->machine);
+    bytes_free(&s->keyring);
     bytes_free(&s->left);
     bytes_free(&s->right);
     bytes_free(&s->hexadecimal);
@@ -61,6 +64,7 @@ static const struct {
     {"reset", run_reset},
     {"power-on", run_power_on},
     {"machine", run_machine},
+    {"keyring", run_keyring},
     {"show", run_show},
 };
 
@@ -78,6 +82,7 @@ void run_line(struct simulator *s, const char *text, size_t len)
             return;
         }
     }
-    bad_line(&s->line, "'%.*s' begins no statement; expected cpu, power-on, settle, sleep, reset, iwkey, bytes, memory, machine, expect, show or say",
+    bad_line(&s->line,
+             "'%.*s' begins no statement; expected cpu, power-on, settle, sleep, reset, iwkey, bytes, memory, machine, keyring, expect, show or say",
              shown(word.len), word.text);
 }

@@ -1,4 +1,4 @@
-/* The state of a run: one emulated machine, the CPU records of its processors, guest memory, and the names of the trace. */
+/* The state of a run: one emulated machine, the CPU records of its processors, guest memory, a keyring, and the names of the trace. */
 #ifndef SIMULATOR_H
 #define SIMULATOR_H
 
@@ -32,7 +32,7 @@ struct cpu {
 };
 
 enum call { CALL_NONE, CALL_POWER_ON, CALL_LOAD, CALL_ENCODE, CALL_USE, CALL_UNKNOWN_STEP, CALL_CPUID, CALL_READ, CALL_WRITE, CALL_SETTLE, CALL_SLEEP,
-            CALL_RESET };
+            CALL_RESET, CALL_KEYRING_LOOKUP, CALL_KEYRING_ADD };
 
 /* The registers that CPUID writes, in their order there. */
 enum { EAX, EBX, ECX, EDX, CPUID_REGISTERS };
@@ -44,6 +44,7 @@ struct last {
     unsigned zf;
     uint64_t value;
     uint32_t cpuid[CPUID_REGISTERS];
+    uint8_t kind;
 };
 
 struct counts {
@@ -55,6 +56,7 @@ struct simulator {
     struct line line;
     struct names names;
     struct bytes machine; /* KEYLOCKER_MACHINE_SIZE bytes unless the trace lends others */
+    struct bytes keyring; /* of no bytes until the trace lends some */
     struct cpu *cpus;
     unsigned touched; /* processors from here on have fresh records */
     uint8_t *memory;

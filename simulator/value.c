@@ -10,8 +10,8 @@
 static const char *const stops[] = {"->", "=", "random", "encryption", "no-backup", "cpl0-only", "no-encrypt", "no-decrypt", "restrict"};
 
 /* Other words that cannot be names, because they have a meaning where names stand. */
-static const char *const reserved[] = {"machine", "memory", "record", "at", "empty", "integrity", "not-ready",
-                                       "done", "refused", "zf", "value", "eax", "ebx", "ecx", "edx"};
+static const char *const reserved[] = {"machine", "memory", "keyring", "record", "at", "empty", "integrity", "not-ready",
+                                       "done", "refused", "zf", "value", "kind", "eax", "ebx", "ecx", "edx"};
 
 static bool one_of(struct word word, const char *const *keywords, size_t count)
 {
@@ -81,6 +81,8 @@ static struct view named_view(struct simulator *s, struct word word)
         return (struct view){s->machine.data, s->machine.len};
     if (word_is(word, "memory"))
         return (struct view){s->memory, s->memory_len};
+    if (word_is(word, "keyring"))
+        return (struct view){s->keyring.data, s->keyring.len};
     if (cpu_view(s, word, &view))
         return view;
     if (word.len > 2 && word.text[0] == '0' && word.text[1] == 'x')

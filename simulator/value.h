@@ -4,7 +4,7 @@
 
 #include "simulator.h"
 
-/* One word: hexadecimal digits, a name, or a place of the machine, with [from..to], * and ^. It is put behind what out holds. */
+/* One word: hexadecimal digits, a name, the keyring, or a place of the machine, with [from..to], * and ^. It is put behind what out holds. */
 void append_word_value(struct simulator *s, struct word word, struct bytes *out);
 
 /* All words up to the end of the line or to a keyword that can stand behind bytes. There has to be one. */

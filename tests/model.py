@@ -1,4 +1,4 @@
-"""A second model of the whole emulated machine, beside the proved one, to derive what test programs have to write.
+"""A second model of the whole emulated machine and of the keyring, beside the proved one, to derive what test programs have to write.
 
 It is written from the scope (see docs/DECISIONS.md) and from nothing under crates/, in the scope's order and for reading. The machine record is
 its 924 bytes and the CPU record its 408; a call gives what it leaves, or raises Refused with the number of the refusal.
@@ -430,3 +430,94 @@ def sleep(machine, code):
 def reset(machine):
     m = machine_from(machine)
     return Machine(m.count, m.features).to_bytes()
+
+
+# ---- the keyring
+
+RECORD = 80
+KEYRING_LIMIT = 65_520
+HEADS = 16
+LABEL_SIZE = 12
+KIND_OF = {48: 0, 64: 1}  # by the handle's size
+
+
+@dataclass
+class Record:
+    next: int
+    kind: int
+    label: bytes
+    place: bytes  # the handle, in 64 bytes
+
+    def to_bytes(self):
+        return self.next.to_bytes(2, "little") + bytes([self.kind, 0]) + self.label + self.place
+
+    @staticmethod
+    def from_bytes(b):
+        refuse_if(b[2] > 1 or b[3] != 0, 15)
+        return Record(index_from(b), b[2], b[4:16], b[16:])
+
+
+@dataclass
+class Keyring:
+    records: dict  # by index, from 1 on
+    chains: list  # of indices, the sixteen in the order of their heads
+
+    def to_bytes(self):
+        heads = [chain[0] if chain else 0 for chain in self.chains]
+        return b"".join(head.to_bytes(2, "little") for head in heads).ljust(RECORD, b"\0") + b"".join(r.to_bytes() for r in self.records.values())
+
+    def chain_of(self, label):
+        return self.chains[label[0] % HEADS]
+
+    def first_with(self, label):
+        return next((self.records[i] for i in self.chain_of(label) if self.records[i].label == label), None)
+
+    def unused(self):
+        return sorted(set(self.records) - set(sum(self.chains, [])))
+
+
+def index_from(b):
+    return int.from_bytes(b[:2], "little")
+
+
+def keyring_from(b):
+    """The lent bytes taken apart, with refusal 15."""
+    refuse_if(len(b) % RECORD != 0 or not RECORD <= len(b) <= KEYRING_LIMIT, 15)
+    heads, tail = [index_from(b[2 * k :]) for k in range(HEADS)], b[2 * HEADS : RECORD]
+    records = {i: Record.from_bytes(b[RECORD * i : RECORD * (i + 1)]) for i in range(1, len(b) // RECORD)}
+    refuse_if(any(tail), 15)
+    refuse_if(any(i != 0 and i not in records for i in heads + [r.next for r in records.values()]), 15)
+    reached = []
+    chains = []
+    for i in heads:
+        chains.append([])
+        while i != 0:
+            refuse_if(i in reached, 15)
+            reached.append(i)
+            chains[-1].append(i)
+            i = records[i].next
+    return Keyring(records, chains)
+
+
+def keyring_lookup(keyring, label):
+    """The kind and the handle."""
+    found = keyring_from(keyring)
+    refuse_if(len(label) != LABEL_SIZE, 15)
+    record = found.first_with(label)
+    refuse_if(record is None, 16)
+    return record.kind, record.place[: {0: 48, 1: 64}[record.kind]]
+
+
+def keyring_add(keyring, label, handle):
+    k = keyring_from(keyring)
+    refuse_if(len(label) != LABEL_SIZE or len(handle) not in KIND_OF, 15)
+    kind, place = KIND_OF[len(handle)], handle.ljust(64, b"\0")
+    record = k.first_with(label)
+    if record is not None:
+        record.kind, record.place = kind, place
+        return k.to_bytes()
+    unused, chain = k.unused(), k.chain_of(label)
+    refuse_if(not unused, 17)
+    k.records[unused[0]] = Record(chain[0] if chain else 0, kind, label, place)
+    chain.insert(0, unused[0])
+    return k.to_bytes()

@@ -102,6 +102,17 @@ def test_random(tmp):
         need(re.search("step 67 f30f38d.*\nexpect done\nexpect zf 0\n", text.getvalue()), f"seed {seed}: no handle opens by a string with 67")
 
 
+def test_random_keyrings(tmp):
+    """The same on keyrings, with every byte of them."""
+    for seed in [1, 2, 3]:
+        with contextlib.redirect_stdout(io.StringIO()) as text:
+            traces.RandomKeyrings(seed).run(500)
+        summary = must(simulate(text.getvalue(), "--quiet"), 0, f"seed {seed}").stdout
+        need(" 500 calls" in summary, summary)
+        for seen in ["expect refused 15", "expect refused 16", "expect refused 17", "expect kind 0", "expect kind 1"]:
+            need(text.getvalue().count(f"{seen}\n") > 5, f"seed {seed}: too few of", seen)
+
+
 WORDS = """
 power-on 17
 -- 1 the processor count or the features are not possible
@@ -174,6 +185,27 @@ settle bad
 -- 0 done: persistent storage failed
 cpu 0 read IA32_IWKEYBACKUP_STATUS
 -- 0 done: value 12, the backup is not valid, error 1, consumed 1
+show keyring
+-- 0 bytes, which are no keyring: calls on it are refused, 15
+keyring lookup 05*12
+-- 15 these bytes are no keyring, or the label has not 12 bytes
+keyring records 3
+keyring add 05*12 33*47
+-- 15 these bytes are no keyring, the label has not 12 bytes, or the handle neither 48 nor 64
+keyring add 05*12 33*48
+-- 0 done: record 1 of chain 5, a new one, the first of its chain
+keyring add 757365722d6b657900000000 44*64
+-- 0 done: record 2 of chain 5, a new one, the first of its chain
+keyring add 05*12 55*64
+-- 0 done: record 1 of chain 5, its handle is replaced
+keyring lookup 05*12
+-- 0 done: record 1 of chain 5, kind 1
+keyring lookup 15*12
+-- 16 no record of the label's chain has it
+keyring add 15*12 33*48
+-- 17 the label is not there, and every record but 0 is on a chain
+show keyring
+-- chain 5, record 2: kind 1, label 757365722d6b657900000000 'user-key', handle 44444444444444444444444444444444 ..
 """
 
 
@@ -202,12 +234,12 @@ def altered(line):
     """The expectation, so that it is not met."""
     if found := re.match(r"(.*\bzf )([01])", line):
         return found[1] + str(1 - int(found[2]))
-    if found := re.match(r"(.*\bvalue )(\w+)", line):
+    if found := re.match(r"(.*\b(?:value|kind) )(\w+)", line):
         return found[1] + str(int(found[2], 0) + 1)
     if found := re.match(r"(expect e[abcd]x )(\w+)", line, re.I):
         return found[1] + str(int(found[2], 0) ^ 1)
     if found := re.match(r"(.*\brefused )(\d+)", line):
-        return found[1] + str(int(found[2]) % 14 + 1)
+        return found[1] + str(int(found[2]) % 17 + 1)
     if re.match(r"expect done", line):
         return "expect refused 6"
     if found := re.match(r"(cpu \S+ expect (?:r(?!ecord)[a-z0-9]+|cpl|control) = )(\w+)", line):
@@ -217,21 +249,28 @@ def altered(line):
 
 def test_unmet_by_refused(tmp):
     """What a refused call would have answered is not taken from the call before."""
-    head = "power-on 1\ncpu 0 loadiwkey 00*48\ncpu 0 read 0x990\ncpu 0 cpuid 0x19\n"
-    for refused, expect in [("step empty", "zf 0"), ("read 0x992", "value 0"), ("cpl 4 cpuid 0x19", "eax 7"), ("cpl 4 cpuid 0", "edx 0")]:
-        result = must(simulate(f"{head}cpu 0 {refused}\nexpect {expect}\n"), 1, refused)
+    head = "power-on 1\ncpu 0 loadiwkey 00*48\ncpu 0 read 0x990\ncpu 0 cpuid 0x19\nkeyring records 2\nkeyring add 00*12 00*48\nkeyring lookup 00*12\n"
+    for refused, expect in [
+        ("cpu 0 step empty", "zf 0"),
+        ("cpu 0 read 0x992", "value 0"),
+        ("cpu 0 cpl 4 cpuid 0x19", "eax 7"),
+        ("cpu 0 cpl 4 cpuid 0", "edx 0"),
+        ("keyring lookup 01*12", "kind 0"),
+    ]:
+        result = must(simulate(f"{head}{refused}\nexpect {expect}\n"), 1, refused)
         need(f"expect {expect}: NOT MET, the last call was refused" in result.stdout, result.stdout)
 
 
 def test_unmet_words(tmp):
     """What was found instead."""
     for call, expect, found in [
-        ("loadiwkey 00*48", "zf 1", "ZF is 0"),
-        ("read 0x990", "value 2", "the value is 0"),
-        ("cpuid 7", "ecx 0x400000", "ecx is 0x800000"),
-        ("cpuid 0x19", "ebx 5", "ebx is 0x15"),
+        ("cpu 0 loadiwkey 00*48", "zf 1", "ZF is 0"),
+        ("cpu 0 read 0x990", "value 2", "the value is 0"),
+        ("cpu 0 cpuid 7", "ecx 0x400000", "ecx is 0x800000"),
+        ("cpu 0 cpuid 0x19", "ebx 5", "ebx is 0x15"),
+        ("keyring records 2\nkeyring add 00*12 00*64\nkeyring lookup 00*12", "kind 0", "the kind is 1"),
     ]:
-        result = must(simulate(f"power-on 1\ncpu 0 {call}\nexpect {expect}\n"), 1, call)
+        result = must(simulate(f"power-on 1\n{call}\nexpect {expect}\n"), 1, call)
         need(f"expect {expect}: NOT MET, {found}\n" in result.stdout, result.stdout)
 
 
@@ -324,8 +363,23 @@ BAD_LINES = [
     ("memory 1048575 = 0000", "expected at most 1 bytes from address 1048575 on"),
     ("memory size 1048578", "a number from 0 to 1048577"),
     ("machine 00", "expected '=', not '00'"),
-    ("expect", "expected done, refused, zf, value, eax, ebx, ecx, edx or bytes after 'expect'"),
-    ("expect refused 15", "a number from 0 to 14"),
+    ("keyring", "expected =, records, add or lookup after 'keyring'"),
+    ("keyring remove good", "expected =, records, add or lookup, not 'remove'"),
+    ("keyring =", "expected the keyring's bytes after '='"),
+    ("keyring records", "expected the number of records after 'records'"),
+    ("keyring records 26215", "a number from 0 to 26214"),
+    ("keyring records 2 3", "expected the end of the line, not '3'"),
+    ("keyring add", "expected a label after 'add'"),
+    ("keyring add 00*12", "expected a handle after '00*12'"),
+    ("keyring add 00*12 good -> x", "expected the end of the line, not '->'"),
+    ("keyring lookup", "expected a label after 'lookup'"),
+    ("keyring lookup 00*12 good", "expected the end of the line, not 'good'"),
+    ("keyring lookup 00*12 -> keyring", "'keyring' cannot be a name, since it means something already"),
+    ("bytes kind = 00", "'kind' cannot be a name, since it means something already"),
+    ("expect kind 0", "expected a keyring lookup as the last call"),
+    ("expect kind 256", "a number from 0 to 255"),
+    ("expect", "expected done, refused, zf, value, kind, eax, ebx, ecx, edx or bytes after 'expect'"),
+    ("expect refused 18", "a number from 0 to 17"),
     ("expect refused 0", "0 is 'expect done'"),
     ("expect zf 2", "a number from 0 to 1"),
     ("expect value 1", "expected a read as the last call"),
@@ -338,7 +392,7 @@ BAD_LINES = [
     ("expect done today", "expected the end of the line, not 'today'"),
     ("expect rax = 1", "'rax' belongs to a processor; expected cpu N"),
     ("expect good", "expected = after 'good'"),
-    ("show", "expected machine or bytes after 'show'"),
+    ("show", "expected machine, keyring or bytes after 'show'"),
     ("cpu 0 show rip", "'rip' is no name given before"),
     ("bytes good = \x01", "a control character (byte 0x01)"),
     ("expect good = \0", "a control character (byte 0x00)"),
@@ -435,7 +489,7 @@ def test_progress(tmp):
 # ---- memory
 
 
-DAMAGE = ["", "0", "[", "..", "]", "*", "^", " ", "->", "=", "9" * 30, "#", "\x7f", "xmm1", "machine"]
+DAMAGE = ["", "0", "[", "..", "]", "*", "^", " ", "->", "=", "9" * 30, "#", "\x7f", "xmm1", "machine", "keyring"]
 
 
 def mutated(rng, lines):
@@ -481,6 +535,7 @@ def test_valgrind(tmp):
         (["-q", ROOT / "tests/traces/refusals.trace"], 0),
         ([ROOT / "tests/traces/cpuid.trace"], 0),
         ([ROOT / "tests/traces/address-size.trace"], 0),
+        ([ROOT / "tests/traces/keyring.trace"], 0),
         (["--help"], 0),
     ]:
         must(command(*valgrind, PROGRAM, *args), status, args)
@@ -522,6 +577,20 @@ NUMBERS = {
     "KEYLOCKER_MACHINE_CONSUMED": 923,
     "KEYLOCKER_FEATURE_ALL": 0x3F,
     "KEYLOCKER_PF": 14,
+    "KEYLOCKER_BAD_KEYRING": 15,
+    "KEYLOCKER_NO_LABEL": 16,
+    "KEYLOCKER_KEYRING_FULL": 17,
+    "KEYLOCKER_KEYRING_LIMIT": 819 * 80,
+    "KEYLOCKER_KEYRING_RECORD": 80,
+    "KEYLOCKER_KEYRING_HEADS": 16,
+    "KEYLOCKER_LABEL_SIZE": 12,
+    "KEYLOCKER_RECORD_NEXT": 0,
+    "KEYLOCKER_RECORD_KIND": 2,
+    "KEYLOCKER_RECORD_ZERO": 3,
+    "KEYLOCKER_RECORD_LABEL": 4,
+    "KEYLOCKER_RECORD_HANDLE": 16,
+    "KEYLOCKER_KIND_128": 0,
+    "KEYLOCKER_KIND_256": 1,
     "KEYLOCKER_MEMORY_LIMIT": 1_048_576,
     "KEYLOCKER_RFLAGS_OF": 1 << 11,
     "KEYLOCKER_BACKUP_CONSUMED": 1 << 3,

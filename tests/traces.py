@@ -5,6 +5,7 @@
   traces.py FILE             the same for one file
   traces.py --found FILE     print the trace, with what the model says in place of what it expects of bytes
   traces.py --random N SEED  print a trace of N random calls, with all that the model says of each as an expectation
+  traces.py --keyrings N SEED  the same for N random calls on keyrings
 
 It shares nothing with the program but the language's description; a line that is not in the language ends in an exception.
 """
@@ -56,7 +57,8 @@ class Trace:
         self.memory = bytearray(model.MEMORY_LIMIT + 1)
         self.memory_len = model.MEMORY_LIMIT
         self.names = {}
-        self.number = self.zf = self.value = self.cpuid_answer = None  # of the last call
+        self.keyring = b""
+        self.number = self.zf = self.value = self.cpuid_answer = self.kind = None  # of the last call
         self.fresh_cpus()
 
     def fresh_cpus(self):
@@ -77,12 +79,16 @@ class Trace:
         elif base.lower() in XMM:
             value = Cpu(self.cpu).xmm(XMM[base.lower()])
         else:
-            value = {"machine": lambda: self.machine, "memory": lambda: bytes(self.memory[: self.memory_len]), "record": lambda: bytes(self.cpu)}[base]()
+            value = self.lent(base)
         if first is not None:
             begin, end = number(first), number(last or first)
             assert begin <= end < len(value), text
             value = value[begin : end + 1]
         return value * (number(times) if times else 1)
+
+    def lent(self, word):
+        lent = {"machine": lambda: self.machine, "memory": lambda: bytes(self.memory[: self.memory_len]), "record": lambda: bytes(self.cpu)}
+        return self.keyring if word == "keyring" else lent[word]()
 
     def word_bytes(self, word):
         first, *others = map(self.factor, word.split("^"))
@@ -122,7 +128,7 @@ class Trace:
 
     def call(self, function):
         """The call's result, or None where it is refused."""
-        self.number, self.zf, self.value, self.cpuid_answer = 0, None, None, None
+        self.number, self.zf, self.value, self.cpuid_answer, self.kind = 0, None, None, None, None
         try:
             return function()
         except Refused as refused:
@@ -179,6 +185,21 @@ class Trace:
         assert address + len(data) <= model.MEMORY_LIMIT
         self.memory[address : address + len(data)] = data
 
+    def on_keyring(self):
+        if self.accept("="):
+            self.keyring = self.bytes()
+        elif self.accept("records"):
+            self.keyring = bytes(model.RECORD * self.take_number())
+        elif self.accept("add"):
+            label, handle = self.word_bytes(self.words.pop(0)), self.bytes()
+            after = self.call(lambda: model.keyring_add(self.keyring, label, handle))
+            self.keyring = self.keyring if after is None else after
+        else:
+            self.need("lookup")
+            label = self.word_bytes(self.words.pop(0))
+            self.kind, handle = self.call(lambda: model.keyring_lookup(self.keyring, label)) or (None, None)
+            self.result(handle)
+
     def define(self):
         name = self.new_name()
         self.need("=")
@@ -206,6 +227,8 @@ class Trace:
             found, wanted = self.zf, self.take_number()
         elif self.accept("value"):
             found, wanted = self.value, self.take_number()
+        elif self.accept("kind"):
+            found, wanted = self.kind, self.take_number()
         elif first in CPUID_REGISTERS:
             self.words.pop(0)
             answer = self.cpuid_answer
@@ -365,6 +388,7 @@ STATEMENTS = {
     "reset": Trace.reset,
     "machine": Trace.set_machine,
     "memory": Trace.set_memory,
+    "keyring": Trace.on_keyring,
     "bytes": Trace.define,
     "iwkey": Trace.define_iwkey,
     "show": Trace.show,
@@ -518,6 +542,62 @@ class RandomTrace:
                 self.statement(expectation)
 
 
+class RandomKeyrings:
+    """Calls on small keyrings: few labels, so that chains grow and labels come again, and now and then bytes that somebody else wrote."""
+
+    def __init__(self, seed):
+        self.random = random.Random(seed)
+        self.trace = Trace()
+
+    def statement(self, text):
+        print(text)
+        self.trace.run(text)
+
+    def label(self):
+        return (bytes([self.random.choice([0x00, 0x50, 0x05, 0x0F, 0xFF]), self.random.randrange(2)]) + bytes(10)).hex()
+
+    def make(self):
+        self.statement(f"keyring records {self.random.choice([1, 2, 3, 4, 5, 6, 8, 40])}")
+
+    def damage(self):
+        """A byte of a head, of the fields of a record or behind them, altered or set to an index that is about there."""
+        keyring = bytearray(self.trace.keyring)
+        count = len(keyring) // model.RECORD
+        at = self.random.choice([self.random.randrange(model.RECORD), model.RECORD * self.random.randrange(count) + self.random.randrange(5)])
+        keyring[at] = self.random.choice([0, 1, 2, count - 1, count, self.random.randrange(256)]) % 256
+        self.statement(f"keyring = {keyring.hex()}")
+
+    def call(self):
+        label, size = self.label(), self.random.choice([48, 64])
+        if self.random.random() < 0.05:
+            label, size = self.random.choice([(label, 47), (label, 65), (label[2:], size), (label + "00", size), ("00*0", size)])
+        if self.random.random() < 0.4:
+            return f"keyring lookup {label} -> found"
+        return f"keyring add {label} {self.random.randbytes(size).hex()}"
+
+    def expectations(self):
+        trace = self.trace
+        yield f"expect refused {trace.number}" if trace.number else "expect done"
+        if trace.kind is not None:
+            yield f"expect kind {trace.kind}"
+            yield f"expect found = {trace.names['found'].hex()}"
+        yield f"expect keyring = {trace.keyring.hex()}"
+
+    def run(self, count):
+        self.make()
+        for _ in range(count):
+            if self.random.random() < 0.1:
+                self.make()
+            kept = self.trace.keyring
+            if self.random.random() < 0.25:
+                self.damage()
+            self.statement(self.call())
+            for expectation in list(self.expectations()):
+                self.statement(expectation)
+            if self.trace.number == 15:
+                self.statement(f"keyring = {kept.hex()}")
+
+
 def main(args):
     if not args:
         check_all()
@@ -527,6 +607,8 @@ def main(args):
         print_found(Path(args[1]).read_text())
     elif len(args) == 3 and args[0] == "--random":
         RandomTrace(int(args[2])).run(int(args[1]))
+    elif len(args) == 3 and args[0] == "--keyrings":
+        RandomKeyrings(int(args[2])).run(int(args[1]))
     else:
         sys.exit(__doc__)
 
