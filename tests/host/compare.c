@@ -142,7 +142,7 @@ void run_free(struct run *run)
         free(run->results.leaf[i]);
 }
 
-static bool same(struct buffer a, struct buffer b)
+bool same(struct buffer a, struct buffer b)
 {
     return a.length == b.length && (a.length == 0 || memcmp(a.bytes, b.bytes, a.length) == 0);
 }
@@ -191,7 +191,7 @@ const char *difference(const struct trial *t, const struct run *library, const s
 
 static const char *const leaf_names[LEAF_REGISTERS] = {"EAX", "EBX", "ECX", "EDX"};
 
-static void print_buffer(const char *name, struct buffer buffer)
+void print_buffer(const char *name, struct buffer buffer)
 {
     printf("  %s (%zu bytes)", name, buffer.length);
     for (size_t i = 0; i < buffer.length; i++) {
@@ -204,7 +204,7 @@ static void print_buffer(const char *name, struct buffer buffer)
     printf("\n");
 }
 
-static void print_first_difference(const char *name, struct buffer before, struct buffer library, struct buffer model)
+void print_first_difference(const char *name, struct buffer before, struct buffer library, struct buffer model)
 {
     for (size_t i = 0; i < library.length; i++)
         if (library.bytes[i] != model.bytes[i]) {

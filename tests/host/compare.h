@@ -25,6 +25,12 @@ const char *difference(const struct trial *t, const struct run *library, const s
 /* all that is needed to look into a difference */
 void report(const struct trial *t, const struct run *library, const struct run *model);
 
+bool same(struct buffer a, struct buffer b);
+
+/* parts of a report: bytes in hexadecimal, many of them cut; where two sides differ that begin with the same bytes, if they do */
+void print_buffer(const char *name, struct buffer buffer);
+void print_first_difference(const char *name, struct buffer before, struct buffer library, struct buffer model);
+
 extern const char *const call_names[CALL_KINDS];
 
 #endif

@@ -164,6 +164,54 @@
     X(HISTORY_PRIVILEGE, "history: CPL 0 only allows every CPL")                                       \
     X(HISTORY_SIZE, "history: a 128 form may use a 64-byte handle")                                    \
     X(HISTORY_CPUID, "history: CPUID is a call of the list")                                           \
+    /* keyrings */                                                                                     \
+    X(KEYRING_SIZE_0, "keyring: one of no bytes is taken")                                             \
+    X(KEYRING_SIZE_UNEVEN, "keyring: bytes behind the last whole record are taken")                    \
+    X(KEYRING_820_RECORDS, "keyring: 820 records are taken")                                           \
+    X(KEYRING_80_REFUSED, "keyring: one of 80 bytes is refused")                                       \
+    X(KEYRING_BIG_ENDIAN, "keyring: indices are read big-endian")                                      \
+    X(KEYRING_INDEX_BYTE, "keyring: indices have one byte")                                            \
+    X(KEYRING_HEAD_AT_END, "keyring: a head may be the number of records")                             \
+    X(KEYRING_HEAD_15, "keyring: the last head is not tested")                                         \
+    X(KEYRING_NEXT_AT_END, "keyring: a next index may be the number of records")                       \
+    X(KEYRING_UNUSED_NEXT, "keyring: the next index of an unused record is not tested")                \
+    X(KEYRING_KIND_2, "keyring: kind 2 is taken")                                                      \
+    X(KEYRING_UNUSED_KIND, "keyring: the kind of an unused record is not tested")                      \
+    X(KEYRING_ZERO_BYTE, "keyring: the zero byte is not tested")                                       \
+    X(KEYRING_UNUSED_ZERO_BYTE, "keyring: the zero byte of an unused record is not tested")            \
+    X(KEYRING_RECORD_0_FIELDS, "keyring: record 0 has a kind and a zero byte")                         \
+    X(KEYRING_TAIL_FIRST, "keyring: byte 32 of record 0 is not tested")                                \
+    X(KEYRING_TAIL_LAST, "keyring: byte 79 of record 0 is not tested")                                 \
+    X(KEYRING_CYCLE, "keyring: a chain may come back to one of its records")                           \
+    X(KEYRING_JOINED, "keyring: a record may be on two chains")                                        \
+    X(KEYRING_UNUSED_REACHES, "keyring: an unused record reaches its next one")                        \
+    X(KEYRING_FILL_TESTED, "keyring: bytes behind a handle of 48 have to be zero")                     \
+    X(KEYRING_UNUSED_ZERO, "keyring: an unused record has to be zero")                                 \
+    X(KEYRING_WRONG_CHAIN, "keyring: a label on the wrong chain is refused")                           \
+    X(KEYRING_SAME_LABEL, "keyring: the same label twice is refused")                                  \
+    X(KEYRING_LABEL_13, "keyring: a label of 13 bytes is taken")                                       \
+    X(KEYRING_LABEL_LATE, "keyring: lookup: a label of another size is not found")                     \
+    X(KEYRING_HANDLE_SIZES, "keyring: a handle between 48 and 64 bytes is taken")                      \
+    X(KEYRING_HANDLE_LATE, "keyring: a full one is told before the size of the handle")                \
+    X(KEYRING_HIGH_BITS, "keyring: the high four bits pick the chain")                                 \
+    X(KEYRING_THREE_BITS, "keyring: the low three bits pick the chain")                                \
+    X(KEYRING_ALL_CHAINS, "keyring: every chain is searched")                                          \
+    X(KEYRING_RECORD_0_SEARCHED, "keyring: index 0 leads to record 0, which has a label too")          \
+    X(KEYRING_LABEL_11, "keyring: the last byte of a label is not compared")                           \
+    X(KEYRING_LAST_MATCH, "keyring: the last match counts")                                            \
+    X(KEYRING_ZERO_LABEL, "keyring: a label of zeros is never found")                                  \
+    X(KEYRING_FILL_GIVEN, "keyring: lookup gives the bytes behind a handle of 48")                     \
+    X(KEYRING_REPLACE_KEEPS_FILL, "keyring: 48 bytes over 64 leave the last 16")                       \
+    X(KEYRING_REPLACE_KEEPS_KIND, "keyring: replacing keeps the kind")                                 \
+    X(KEYRING_REPLACE_MOVES, "keyring: replacing moves the second of a chain to the front")            \
+    X(KEYRING_FULL_REPLACE, "keyring: a full one replaces nothing")                                    \
+    X(KEYRING_KIND_FROM_AAD, "keyring: the kind comes from the type in the AAD")                       \
+    X(KEYRING_FREE_FROM_2, "keyring: record 1 is never free")                                          \
+    X(KEYRING_FREE_HIGHEST, "keyring: the free record of highest index is taken")                      \
+    X(KEYRING_FREE_BY_ZEROS, "keyring: a free record is one of zeros")                                 \
+    X(KEYRING_STALE_FILL, "keyring: a new handle of 48 leaves what stood behind it")                   \
+    X(KEYRING_NEXT_0, "keyring: a new record has no next one")                                         \
+    X(KEYRING_AT_THE_END, "keyring: a new record goes to the end of its chain")                        \
     /* lent buffers */                                                                                 \
     X(MEMORY_WRITTEN, "memory is written")                                                             \
     X(RANDOM_WRITTEN, "random data is written")                                                        \
@@ -173,13 +221,23 @@
     X(REFUSED_WRITES_VALUE, "a refused call writes the value")                                         \
     X(REFUSED_WRITES_EDX, "a refused CPUID writes EDX")                                                \
     X(CPUID_WRITES_MACHINE, "CPUID writes the machine")                                                \
+    X(KEYRING_REFUSED_WRITES, "a refused call writes the keyring")                                     \
+    X(KEYRING_REFUSED_WRITES_KIND, "a refused lookup writes the kind")                                 \
+    X(KEYRING_REFUSED_WRITES_HANDLE, "a refused lookup writes the handle")                             \
+    X(KEYRING_LOOKUP_WRITES, "a lookup writes the keyring")                                            \
+    X(KEYRING_LABEL_WRITTEN, "a label is written")                                                     \
+    X(KEYRING_HANDLE_WRITTEN, "a handle that is added is written")                                     \
+    X(KEYRING_WRITES_BEHIND, "a byte behind a handle is written")                                      \
     /* seen only under valgrind */                                                                     \
     X(BEHIND_MACHINE, "a byte behind the machine is read")                                             \
     X(BEHIND_CPU, "a byte behind the CPU record is read")                                              \
     X(BEHIND_MEMORY, "a byte behind memory is read")                                                   \
     X(BEHIND_RANDOM, "a byte behind the random data is read")                                          \
     X(BEHIND_STRING, "a byte behind the string is read")                                               \
-    X(BEHIND_CPUID, "a byte behind the CPU record is read by CPUID")
+    X(BEHIND_CPUID, "a byte behind the CPU record is read by CPUID")                                   \
+    X(BEHIND_KEYRING, "a byte behind the keyring is read")                                             \
+    X(BEHIND_LABEL, "a byte behind the label is read")                                                 \
+    X(BEHIND_ADDED, "a byte behind the handle that is added is read")
 
 enum fault {
     FAULT_NONE,

@@ -5,6 +5,7 @@ set -e
 cd "$(dirname "$0")/../.."
 
 calls=60000
+keyrings=20000
 work=build/faults
 mkdir -p "$work"
 missed=0
@@ -34,7 +35,7 @@ while read -r number name text; do
     status=0
     case "$name" in
     BEHIND_*)
-        valgrind --quiet --error-exitcode=3 --exit-on-first-error=yes "$work/runner" --calls 300 "$@" >"$work/log" 2>&1 || status=$?
+        valgrind --quiet --error-exitcode=3 --exit-on-first-error=yes "$work/runner" --calls 300 --keyrings 20 "$@" >"$work/log" 2>&1 || status=$?
         if [ "$status" -eq 3 ] && grep -q "Invalid read" "$work/log"; then
             echo "fault $number ($text): found by valgrind"
             found=$((found + 1))
@@ -45,14 +46,18 @@ while read -r number name text; do
         continue
         ;;
     esac
-    "$work/runner" --calls "$calls" "$@" >"$work/log" 2>&1 || status=$?
+    case "$name" in
+    KEYRING_*) amount="--calls 0 --keyrings $keyrings" ;;
+    *) amount="--calls $calls --keyrings 0" ;;
+    esac
+    "$work/runner" $amount "$@" >"$work/log" 2>&1 || status=$?
     call=$(sed -n 's/^difference at call \([0-9]*\): .*/\1/p' "$work/log")
     what=$(sed -n 's/^difference at call [0-9]*: //p' "$work/log")
     if [ "$status" -eq 1 ] && [ -n "$call" ]; then
         echo "fault $number ($text): found at call $call ($what)"
         found=$((found + 1))
     else
-        echo "fault $number ($text): NOT found in $calls calls (exit $status)"
+        echo "fault $number ($text): NOT found with $amount (exit $status)"
         missed=$((missed + 1))
     fi
 done <"$work/list"

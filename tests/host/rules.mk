@@ -1,6 +1,6 @@
 # The tests over the C boundary: the library against an independent model.
-#   make test-host      500,000 random calls; build/test_host --seed random has others each time
-#   make test-valgrind  20,000 calls under valgrind, with buffers of exactly their length
+#   make test-host      500,000 random calls, and 200,000 random keyrings; build/test_host --seed random has others each time
+#   make test-valgrind  20,000 calls and 1,000 keyrings under valgrind, with buffers of exactly their length
 #   make test-faults    a model with one planted fault after the other: the runner has to find each
 #   make test-stack     every kind of call on a stack of KEYLOCKER_STACK_SIZE bytes, without the model; make bench prints the same figures
 
@@ -15,9 +15,9 @@ test-host: build/test_host
 	./build/test_host
 
 test-valgrind: build/test_host
-	valgrind --quiet --error-exitcode=3 --leak-check=full ./build/test_host --calls 20000 >build/test_valgrind.log || \
+	valgrind --quiet --error-exitcode=3 --leak-check=full ./build/test_host --calls 20000 --keyrings 1000 >build/test_valgrind.log || \
 	    { cat build/test_valgrind.log; exit 1; }
-	@tail -n 1 build/test_valgrind.log
+	@grep 'no difference$$' build/test_valgrind.log
 
 test-faults: build/test_host
 	CC="$(CC)" CFLAGS="$(HOST_FLAGS)" tests/host/faults.sh

@@ -12,6 +12,7 @@
 #include "coverage.h"
 #include "faults.h"
 #include "generate.h"
+#include "keyring.h"
 #include "lengths.h"
 #include "prefixes.h"
 #include "probe.h"
@@ -24,7 +25,7 @@ static struct world world;
 static struct trial trial;
 
 struct options {
-    uint64_t seed, calls;
+    uint64_t seed, calls, keyrings;
     const char *vectors;
 };
 
@@ -147,10 +148,12 @@ static void parse(int argc, char **argv, struct options *options)
             options->seed = strcmp(argv[i + 1], "random") == 0 ? (uint64_t)time(NULL) : parse_number(argv[i + 1]);
         else if (i + 1 < argc && strcmp(argv[i], "--calls") == 0)
             options->calls = parse_number(argv[i + 1]);
+        else if (i + 1 < argc && strcmp(argv[i], "--keyrings") == 0)
+            options->keyrings = parse_number(argv[i + 1]);
         else if (i + 1 < argc && strcmp(argv[i], "--vectors") == 0)
             options->vectors = argv[i + 1];
         else {
-            fprintf(stderr, "usage: %s [--seed N | --seed random] [--calls N] [--vectors DIRECTORY] | --faults\n", argv[0]);
+            fprintf(stderr, "usage: %s [--seed N | --seed random] [--calls N] [--keyrings N] [--vectors DIRECTORY] | --faults\n", argv[0]);
             exit(2);
         }
     }
@@ -158,10 +161,12 @@ static void parse(int argc, char **argv, struct options *options)
 
 int main(int argc, char **argv)
 {
-    struct options options = {.seed = 1, .calls = 500000, .vectors = "tests/vectors"};
+    struct options options = {.seed = 1, .calls = 500000, .keyrings = UINT64_MAX, .vectors = "tests/vectors"};
     if (argc == 2 && strcmp(argv[1], "--faults") == 0)
         return list_faults();
     parse(argc, argv, &options);
+    if (options.keyrings == UINT64_MAX)
+        options.keyrings = options.calls / 5 * 2;
     printf("seed %" PRIu64 "\n", options.seed);
     fflush(stdout);
     aes_start();
@@ -173,6 +178,8 @@ int main(int argc, char **argv)
         return 2;
     chance_seed(options.seed);
     int status = run(&options);
+    if (status == 0 && options.keyrings && !keyring_runs_alike(options.seed, options.keyrings))
+        status = 1;
     for (int i = 0; i < MACHINES; i++)
         history_free(&world.machines[i].history);
     free(trial.memory_room);

@@ -20,6 +20,8 @@ struct entries {
     __typeof__(keylocker_settle) *settle;
     __typeof__(keylocker_sleep) *sleep;
     __typeof__(keylocker_reset) *reset;
+    __typeof__(keylocker_keyring_lookup) *keyring_lookup;
+    __typeof__(keylocker_keyring_add) *keyring_add;
 };
 
 extern const struct entries on_normal_stack, on_small_stack;

@@ -4,6 +4,9 @@
 
 enum { COUNT = 16, PROCESSOR = COUNT - 1, HALF = KEYLOCKER_HANDLE_256_SIZE };
 
+/* labels of a full keyring, by number from 1 on; they are all on chain 0, the first one added at its end */
+enum { LABELS = KEYLOCKER_KEYRING_LIMIT / KEYLOCKER_KEYRING_RECORD - 1, NEW_LABEL = LABELS + 1 };
+
 /* opcode and ModRM behind F3 0F 38 */
 enum {
     LOAD = 0xDCCA,       /* loadiwkey xmm1, xmm2 */
@@ -68,6 +71,15 @@ static void with_pending(struct lent *lent)
     lent->answer = keylocker_write(lent->machine, sizeof lent->machine, PROCESSOR, 0, KEYLOCKER_COPY_LOCAL_TO_PLATFORM, 1);
 }
 
+/* the first of chain 0 is taken out */
+static void with_free_record(struct lent *lent)
+{
+    memcpy(lent->keyring, lent->keyring + LABELS * KEYLOCKER_KEYRING_RECORD + KEYLOCKER_RECORD_NEXT, 2);
+}
+
+/* record 1 is the end of chain 0, and the last that is met */
+static void with_cycle(struct lent *lent) { lent->keyring[KEYLOCKER_KEYRING_RECORD + KEYLOCKER_RECORD_NEXT] = 1; }
+
 #define USE(name, string)                                                       \
     {name, STEP, string, NULL, 0, false, false},                                \
     {name ", illegal handle", STEP, string, with_reserved_bit, 0, true, false}, \
@@ -117,6 +129,13 @@ const struct kind kinds[] = {
     {"step, LOADIWKEY's #GP", STEP, LOAD, at_cpl_3, KEYLOCKER_GP, false, false},
     {"step, a use's #GP", STEP, ENC_128, not_canonical, KEYLOCKER_GP, false, false},
     {"step, #PF", STEP, ENC_128, outside_memory, KEYLOCKER_PF, false, false},
+    {"keyring lookup, the last of a chain", LOOKUP, 1, NULL, 0, false, false},
+    {"keyring lookup, no such label", LOOKUP, NEW_LABEL, NULL, KEYLOCKER_NO_LABEL, false, false},
+    {"keyring lookup, refused", LOOKUP, 1, with_cycle, KEYLOCKER_BAD_KEYRING, false, false},
+    {"keyring add, replaced", ADD, 1, NULL, 0, false, true},
+    {"keyring add, new label", ADD, NEW_LABEL, with_free_record, 0, false, true},
+    {"keyring add, full", ADD, NEW_LABEL, NULL, KEYLOCKER_KEYRING_FULL, false, false},
+    {"keyring add, refused", ADD, 1, with_cycle, KEYLOCKER_BAD_KEYRING, false, false},
 };
 const size_t kind_count = sizeof kinds / sizeof *kinds;
 
@@ -141,6 +160,16 @@ static uint32_t cpuid(const struct entries *entries, uint32_t leaf, struct lent 
                           &lent->leaf[3]);
 }
 
+static uint32_t lookup(const struct entries *entries, struct lent *lent)
+{
+    return entries->keyring_lookup(lent->keyring, sizeof lent->keyring, lent->label, sizeof lent->label, &lent->found_kind, lent->found);
+}
+
+static uint32_t add(const struct entries *entries, struct lent *lent)
+{
+    return entries->keyring_add(lent->keyring, sizeof lent->keyring, lent->label, sizeof lent->label, lent->memory, KEYLOCKER_HANDLE_128_SIZE);
+}
+
 static uint32_t answer(const struct kind *kind, const struct entries *entries, struct lent *lent)
 {
     size_t length = sizeof lent->machine;
@@ -159,6 +188,10 @@ static uint32_t answer(const struct kind *kind, const struct entries *entries, s
         return entries->settle(lent->machine, length, (uint8_t)kind->number);
     case SLEEP:
         return entries->sleep(lent->machine, length, (uint8_t)kind->number);
+    case LOOKUP:
+        return lookup(entries, lent);
+    case ADD:
+        return add(entries, lent);
     default:
         return entries->reset(lent->machine, length);
     }
@@ -190,12 +223,34 @@ static bool encode(struct lent *lent, uint32_t string, uint8_t *handle, size_t l
     return done;
 }
 
-/* a key on the last processor that persistent storage holds, too, and two handles under it */
+static bool is_keyring_call(const struct kind *kind) { return kind->call == LOOKUP || kind->call == ADD; }
+
+static void put_label(struct lent *lent, uint32_t number)
+{
+    lent->label[KEYLOCKER_LABEL_SIZE - 2] = (uint8_t)number;
+    lent->label[KEYLOCKER_LABEL_SIZE - 1] = (uint8_t)(number >> 8);
+}
+
+/* with the longer handles, so that another replaces one */
+static bool fill_keyring(struct lent *lent)
+{
+    bool done = true;
+    for (uint32_t number = 1; number <= LABELS; number++) {
+        put_label(lent, number);
+        done &= keylocker_keyring_add(lent->keyring, sizeof lent->keyring, lent->label, sizeof lent->label, lent->memory + HALF,
+                                      KEYLOCKER_HANDLE_256_SIZE) == KEYLOCKER_DONE;
+    }
+    return done;
+}
+
+/* a key on the last processor that persistent storage holds, too, two handles under it, and for the calls on it a full keyring */
 bool prepare(const struct kind *kind, struct lent *lent)
 {
     memset(lent, 0, sizeof *lent);
     memset(lent->random, 0x5A, sizeof lent->random);
     memset(lent->leaf, 0x5A, sizeof lent->leaf);
+    memset(lent->found, 0x5A, sizeof lent->found);
+    lent->found_kind = 0x5A;
     lent->random_length = sizeof lent->random;
     put_registers(lent);
     put_string(lent, LOAD);
@@ -209,23 +264,36 @@ bool prepare(const struct kind *kind, struct lent *lent)
     lent->cpu[0] ^= 1; /* so that LOADIWKEY loads another key */
     lent->cpu[KEYLOCKER_CPU_RFLAGS] = kind->fails ? 0 : KEYLOCKER_RFLAGS_ZF;
     put_string(lent, kind->number);
+    done = done && (!is_keyring_call(kind) || fill_keyring(lent));
+    put_label(lent, kind->number);
     if (kind->spoil)
         kind->spoil(lent);
     return done && lent->answer == KEYLOCKER_DONE;
 }
 
+/* NULL, or what is wrong of the keyring and of what a lookup gives */
+static const char *keyring_not_as_meant(const struct kind *kind, const struct lent *before, const struct lent *after)
+{
+    bool finds = kind->call == LOOKUP && !kind->answer, writes = kind->call == ADD && kind->writes;
+    if ((memcmp(before->keyring, after->keyring, sizeof after->keyring) != 0) != writes)
+        return writes ? "the keyring is as it was" : "the keyring was written";
+    if ((before->found_kind != after->found_kind) != finds || (memcmp(before->found, after->found, sizeof after->found) != 0) != finds)
+        return finds ? "kind or handle are as they were" : "kind or handle were written";
+    return NULL;
+}
+
 const char *not_as_meant(const struct kind *kind, const struct lent *before, const struct lent *after)
 {
-    bool identifies = kind->call == CPUID && !kind->answer;
+    bool identifies = kind->call == CPUID && !kind->answer, writes = kind->writes && kind->call != ADD;
     if (after->answer != kind->answer)
         return "another answer than meant";
-    if ((memcmp(before->machine, after->machine, sizeof after->machine) != 0) != kind->writes)
-        return kind->writes ? "the machine is as it was" : "the machine was written";
+    if ((memcmp(before->machine, after->machine, sizeof after->machine) != 0) != writes)
+        return writes ? "the machine is as it was" : "the machine was written";
     if (kind->call == STEP && !kind->answer && ((after->cpu[KEYLOCKER_CPU_RFLAGS] & KEYLOCKER_RFLAGS_ZF) != 0) != kind->fails)
         return "another ZF than meant";
     if (kind->call == CPUID && memcmp(before->cpu, after->cpu, sizeof after->cpu) != 0)
         return "CPUID wrote the CPU record";
     if ((memcmp(before->leaf, after->leaf, sizeof after->leaf) != 0) != identifies)
         return identifies ? "CPUID's numbers are as they were" : "CPUID's numbers were written";
-    return NULL;
+    return keyring_not_as_meant(kind, before, after);
 }

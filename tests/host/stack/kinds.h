@@ -12,19 +12,21 @@ struct lent {
     size_t random_length, string_length;
     uint64_t value;
     uint32_t leaf[4]; /* CPUID's EAX, EBX, ECX, EDX */
+    uint8_t keyring[KEYLOCKER_KEYRING_LIMIT], label[KEYLOCKER_LABEL_SIZE];
+    uint8_t found_kind, found[KEYLOCKER_HANDLE_256_SIZE];
     uint32_t answer;
 };
 
-enum call { POWER_ON, STEP, CPUID, READ, WRITE, SETTLE, SLEEP, RESET };
+enum call { POWER_ON, STEP, CPUID, READ, WRITE, SETTLE, SLEEP, RESET, LOOKUP, ADD };
 
 struct kind {
     const char *name;
     enum call call;
-    uint32_t number; /* count, register, leaf or code; of a step opcode and ModRM behind F3 0F 38 */
+    uint32_t number; /* count, register, leaf, code or label; of a step opcode and ModRM behind F3 0F 38 */
     void (*spoil)(struct lent *lent); /* or none */
     uint32_t answer;
     bool fails;  /* ZF after a step that is done */
-    bool writes; /* the machine differs afterwards */
+    bool writes; /* the machine differs afterwards, or the keyring */
 };
 
 extern const struct kind kinds[];

@@ -42,7 +42,9 @@ static bool same(const struct lent *a, const struct lent *b)
     return a->answer == b->answer && a->value == b->value && memcmp(a->leaf, b->leaf, sizeof a->leaf) == 0 &&
            memcmp(a->machine, b->machine, sizeof a->machine) == 0 && memcmp(a->cpu, b->cpu, sizeof a->cpu) == 0 &&
            memcmp(a->memory, b->memory, sizeof a->memory) == 0 &&
-           memcmp(a->random, b->random, sizeof a->random) == 0 && memcmp(a->string, b->string, sizeof a->string) == 0;
+           memcmp(a->random, b->random, sizeof a->random) == 0 && memcmp(a->string, b->string, sizeof a->string) == 0 &&
+           memcmp(a->keyring, b->keyring, sizeof a->keyring) == 0 && memcmp(a->label, b->label, sizeof a->label) == 0 &&
+           a->found_kind == b->found_kind && memcmp(a->found, b->found, sizeof a->found) == 0;
 }
 
 /* NULL and what the call needs, or what is wrong. The call on the normal stack is the first, so that a dynamic linker has bound what the library calls. */
