@@ -1,7 +1,8 @@
 # make           build what make install installs, in build/: the library, its pkg-config file and the simulator
 # make install   install them and the header below $(DESTDIR)$(PREFIX); PREFIX is /usr/local unless given
 # make demo      run the simulator's built-in scenario
-# make bench     measure the proved libraries against AES, key wrapping and the cryptography of whole calls in C, and the stack that each call needs
+# make bench     measure the proved libraries against AES, key wrapping, the cryptography of whole calls and the keyring in C, and the stack that each
+#                call needs
 # make examples  print the papers' examples, computed by the proved libraries
 # make test      all tests, as tests/run.sh has them
 # make test-decoder  compare the proved decoder with GNU objdump, on about two million strings
@@ -24,6 +25,7 @@ AES = aes $(BASELINE)
 WRAPPING = keywrap_bytes keywrap_ttables $(BASELINE)
 KEYWRAP = keywrap $(WRAPPING)
 KEYLOCKER = keylocker $(WRAPPING)
+KEYRING = keyring keyring_plain measure
 
 .PHONY: all install demo bench examples test test-decoder test-machine test-constants test-simulator clean always
 
@@ -74,18 +76,21 @@ test-simulator: all
 
 # ---- measuring
 
-bench: build/bench_aes build/bench_keywrap build/bench_keylocker build/test_stack
+bench: build/bench_aes build/bench_keywrap build/bench_keylocker build/bench_keyring build/test_stack
 	./build/bench_aes
 	@echo
 	./build/bench_keywrap
 	@echo
 	./build/bench_keylocker
 	@echo
+	./build/bench_keyring
+	@echo
 	./build/test_stack
 
 build/bench_aes: $(AES:%=build/%.o) target/staticlib/libaes_c.a
 build/bench_keywrap: $(KEYWRAP:%=build/%.o) target/staticlib/libkeywrap_c.a
 build/bench_keylocker: $(KEYLOCKER:%=build/%.o) target/staticlib/libkeylocker.a
+build/bench_keyring: $(KEYRING:%=build/%.o) target/staticlib/libkeylocker.a
 build/bench_%:
 	$(CC) $(CFLAGS) -o $@ $^ -lm
 

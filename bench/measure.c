@@ -41,7 +41,7 @@ static size_t enough_reps(int core, const struct row *row, slice_fn *slice_ns)
     return reps;
 }
 
-static int cores_of(const struct row *row) { return row->alone ? PROVED + 1 : CORES; }
+static int cores_of(const struct row *row) { return row->alone ? PROVED + 1 : row->plain ? PLAIN + 1 : CORES; }
 
 static void prepare(struct row *row, slice_fn *slice_ns)
 {
@@ -103,6 +103,6 @@ const struct row *print_bar(const struct bar *bar, const struct row *rows, size_
             worst = &rows[i];
     double is = ratio(worst, bar->to);
     printf("%-6s  %-12s  at most %.2f x %-9s  worst %.3f, ", is <= bar->most ? kept : missed, bar->what, bar->most,
-           core_names[bar->to], is);
+           bar->baseline ? bar->baseline : core_names[bar->to], is);
     return worst;
 }

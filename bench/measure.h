@@ -1,5 +1,5 @@
 // What the measuring programs have in common: random bytes, the clock, and the measurement of the
-// proved library and its two baselines in turn.
+// proved library and its baselines in turn.
 #ifndef MEASURE_H
 #define MEASURE_H
 
@@ -8,6 +8,7 @@
 #include <stdint.h>
 
 enum { PROVED, BYTES, TTABLES, CORES };
+enum { PLAIN = BYTES }; // of a program that has one baseline only
 extern const char *const core_names[CORES];
 
 // Random bytes from a fixed seed, so that a failure comes again.
@@ -21,6 +22,7 @@ struct row {
     int op; // of the program's own enum
     size_t blocks;
     bool alone;    // no core does the like
+    bool plain;    // there is one baseline, PLAIN
     uint8_t count; // of processors, where the program has any
     size_t reps[CORES];
     double ns[CORES];
@@ -39,6 +41,7 @@ struct bar {
     size_t blocks; // of the rows that it holds for
     int to;
     double most;
+    const char *baseline; // its name, where it is none of core_names
 };
 
 // Prints a bar without the end of its line, where the name of its worst row belongs, which is returned.
