@@ -41,6 +41,17 @@ static void expect_answer(struct simulator *s, uint32_t answer)
         say_answer(s);
 }
 
+/* Whether the last call was done and gave something else than was expected of it, which is then still to be said; a refusal is said here. */
+static bool gave_other(struct simulator *s, bool same)
+{
+    bool done = s->last.answer == KEYLOCKER_DONE;
+    if (!unmet(s, done && same))
+        return false;
+    if (!done)
+        say_answer(s);
+    return done;
+}
+
 static bool was_step(const struct simulator *s)
 {
     return s->last.call == CALL_LOAD || s->last.call == CALL_ENCODE || s->last.call == CALL_USE || s->last.call == CALL_UNKNOWN_STEP;
@@ -52,13 +63,8 @@ static void expect_zf(struct simulator *s)
     take_end(&s->line);
     if (!was_step(s))
         bad_line(&s->line, "expected an instruction as the last call before 'expect zf'");
-    bool done = s->last.answer == KEYLOCKER_DONE;
-    if (!unmet(s, done && s->last.zf == zf))
-        return;
-    if (done)
+    if (gave_other(s, s->last.zf == zf))
         printf("ZF is %u\n", s->last.zf);
-    else
-        say_answer(s);
 }
 
 static void expect_value(struct simulator *s)
@@ -67,13 +73,8 @@ static void expect_value(struct simulator *s)
     take_end(&s->line);
     if (s->last.call != CALL_READ)
         bad_line(&s->line, "expected a read as the last call before 'expect value'");
-    bool done = s->last.answer == KEYLOCKER_DONE;
-    if (!unmet(s, done && s->last.value == value))
-        return;
-    if (done)
+    if (gave_other(s, s->last.value == value))
         printf("the value is %" PRIu64 "\n", s->last.value);
-    else
-        say_answer(s);
 }
 
 static void expect_cpuid(struct simulator *s, int place)
@@ -82,13 +83,8 @@ static void expect_cpuid(struct simulator *s, int place)
     take_end(&s->line);
     if (s->last.call != CALL_CPUID)
         bad_line(&s->line, "expected a cpuid as the last call before 'expect %s'", cpuid_names[place]);
-    bool done = s->last.answer == KEYLOCKER_DONE;
-    if (!unmet(s, done && s->last.cpuid[place] == value))
-        return;
-    if (done)
+    if (gave_other(s, s->last.cpuid[place] == value))
         printf("%s is 0x%" PRIx32 "\n", cpuid_names[place], s->last.cpuid[place]);
-    else
-        say_answer(s);
 }
 
 static void expect_kind(struct simulator *s)
@@ -97,13 +93,8 @@ static void expect_kind(struct simulator *s)
     take_end(&s->line);
     if (s->last.call != CALL_KEYRING_LOOKUP)
         bad_line(&s->line, "expected a keyring lookup as the last call before 'expect kind'");
-    bool done = s->last.answer == KEYLOCKER_DONE;
-    if (!unmet(s, done && s->last.kind == kind))
-        return;
-    if (done)
+    if (gave_other(s, s->last.kind == kind))
         printf("the kind is %u\n", s->last.kind);
-    else
-        say_answer(s);
 }
 
 static void expect_register(struct simulator *s, const struct field *field)

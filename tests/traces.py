@@ -444,8 +444,8 @@ def print_found(text):
 # ---- random traces
 
 
-class RandomTrace:
-    """Statements that are random but meet each other: few keys, handles and processors, so that some handles open and some copies fail."""
+class RandomStatements:
+    """Random statements, printed, and run by the model."""
 
     def __init__(self, seed):
         self.random = random.Random(seed)
@@ -460,6 +460,10 @@ class RandomTrace:
 
     def some(self, *choices):
         return self.random.choice(choices)
+
+
+class RandomTrace(RandomStatements):
+    """Statements that are random but meet each other: few keys, handles and processors, so that some handles open and some copies fail."""
 
     def begin(self):
         for n in range(3):
@@ -542,22 +546,14 @@ class RandomTrace:
                 self.statement(expectation)
 
 
-class RandomKeyrings:
+class RandomKeyrings(RandomStatements):
     """Calls on small keyrings: few labels, so that chains grow and labels come again, and now and then bytes that somebody else wrote."""
 
-    def __init__(self, seed):
-        self.random = random.Random(seed)
-        self.trace = Trace()
-
-    def statement(self, text):
-        print(text)
-        self.trace.run(text)
-
     def label(self):
-        return (bytes([self.random.choice([0x00, 0x50, 0x05, 0x0F, 0xFF]), self.random.randrange(2)]) + bytes(10)).hex()
+        return (bytes([self.some(0x00, 0x50, 0x05, 0x0F, 0xFF), self.random.randrange(2)]) + bytes(10)).hex()
 
     def make(self):
-        self.statement(f"keyring records {self.random.choice([1, 2, 3, 4, 5, 6, 8, 40])}")
+        self.statement(f"keyring records {self.some(1, 2, 3, 4, 5, 6, 8, 40)}")
 
     def damage(self):
         """A byte of a head, of the fields of a record or behind them, altered or set to an index that is about there."""
@@ -573,7 +569,7 @@ class RandomKeyrings:
             label, size = self.random.choice([(label, 47), (label, 65), (label[2:], size), (label + "00", size), ("00*0", size)])
         if self.random.random() < 0.4:
             return f"keyring lookup {label} -> found"
-        return f"keyring add {label} {self.random.randbytes(size).hex()}"
+        return f"keyring add {label} {self.hex(size)}"
 
     def expectations(self):
         trace = self.trace

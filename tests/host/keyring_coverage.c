@@ -58,18 +58,10 @@
     X(NULL_LABEL, "a null pointer for the label")                                        \
     X(NULL_HANDLE, "a null pointer for the handle")
 
-enum event {
-#define EVENT(name, text) EVENT_##name,
-    EVENTS(EVENT)
-#undef EVENT
-    EVENT_COUNT
-};
-
-static const char *const event_texts[] = {
-#define EVENT(name, text) text,
-    EVENTS(EVENT)
-#undef EVENT
-};
+#define EVENT_NAME(name, text) EVENT_##name,
+#define EVENT_TEXT(name, text) text,
+enum event { EVENTS(EVENT_NAME) EVENT_COUNT };
+static const char *const event_texts[] = {EVENTS(EVENT_TEXT)};
 
 enum { ALTERATIONS_MOST = 64 };
 static unsigned long events[EVENT_COUNT], altered[ALTERATIONS_MOST][2], heads_past[RING_HEADS][2];

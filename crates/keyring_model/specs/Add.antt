@@ -9,7 +9,7 @@ use lib.Dec.{eqb}
 use lib.ListN.{length, set}
 use lib.Seq.{sets}
 use Rattle.bits.specs.Words.{leBytes}
-use Rattle.keyring_model.specs.Records.{recordSize, records, labelSize, headOf, headFor, handlePlace, zeroFilled}
+use Rattle.keyring_model.specs.Records.{recordSize, records, labelSize, headPlace, headOf, headFor, kindPlace, handlePlace, zeroFilled}
 use Rattle.keyring_model.specs.Chains.{reached, member}
 use Rattle.keyring_model.specs.Validity.{valid}
 use Rattle.keyring_model.specs.Lookup.{search}
@@ -19,6 +19,7 @@ unfoldable pub lowest : (ℕ → Bool) → ℕ → ℕ → Option ℕ
 lowest p zero i = none
 lowest p (suc n) i = cond (p i) (some i) (lowest p n (i + 1))
 
+-- "the record of lowest index that is on no chain"
 abbrev pub free : List ℕ → Option ℕ
 free b = lowest (λ i. not (member i (reached b))) (records b - 1) 1
 
@@ -26,9 +27,9 @@ free b = lowest (λ i. not (member i (reached b))) (records b - 1) 1
 abbrev pub kindFor : List ℕ → ℕ
 kindFor h = cond (eqb (length h) 48) 0 1
 
--- handle and kind of record i replaced
+-- "replaces handle and kind", those of record i
 unfoldable pub putHandle : List ℕ → ℕ → List ℕ → List ℕ
-putHandle b i h = sets (set b (i * recordSize + 2) (kindFor h)) (handlePlace i) (zeroFilled h)
+putHandle b i h = sets (set b (kindPlace i) (kindFor h)) (handlePlace i) (zeroFilled h)
 
 -- a whole record
 abbrev pub recordBytes : (next : ℕ) → List ℕ → List ℕ → List ℕ
@@ -36,7 +37,7 @@ recordBytes next l h = leBytes 2 next ++ (kindFor h ∷ 0 ∷ l) ++ zeroFilled h
 
 -- record i filled, before what its chain had, and its index in the chain's head
 unfoldable pub putRecord : List ℕ → ℕ → List ℕ → List ℕ → List ℕ
-putRecord b i l h = sets (sets b (i * recordSize) (recordBytes (headOf b (headFor l)) l h)) (headFor l * 2) (leBytes 2 i)
+putRecord b i l h = sets (sets b (i * recordSize) (recordBytes (headOf b (headFor l)) l h)) (headPlace (headFor l)) (leBytes 2 i)
 
 -- 0 or the refusal's number, and the block
 pub record Added : Type 0 where
@@ -51,6 +52,7 @@ abbrev pub addedNew : List ℕ → List ℕ → List ℕ → Option ℕ → Adde
 addedNew b l h none = added 17 b
 addedNew b l h (some i) = added 0 (putRecord b i l h)
 
+-- "a label that is there", or else a new one
 abbrev pub addedAt : List ℕ → List ℕ → List ℕ → Option ℕ → Added
 addedAt b l h none = addedNew b l h (free b)
 addedAt b l h (some i) = added 0 (putHandle b i h)

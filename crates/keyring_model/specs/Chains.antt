@@ -1,4 +1,4 @@
--- The chains of a keyring, and the records on them.
+-- Change request (iv): the chains of a keyring, and the records on them.
 -- Assumes nothing.
 use mathlib.Core.Bool.{Bool, true, false, cond, not, _&&_, _||_}
 use mathlib.Core.List.{List, [], _∷_, _++_}
@@ -20,9 +20,11 @@ unfoldable pub reachedFrom : ℕ → List ℕ → List ℕ
 reachedFrom zero b = []
 reachedFrom (suc k) b = reachedFrom k b ++ chainOf b k
 
+-- every record on a chain, as often as a head reaches it
 abbrev pub reached : List ℕ → List ℕ
 reached b = reachedFrom heads b
 
+-- whether a number stands in the list
 unfoldable pub member : ℕ → List ℕ → Bool
 member i [] = false
 member i (j ∷ l) = eqb i j || member i l

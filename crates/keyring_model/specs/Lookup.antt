@@ -17,6 +17,7 @@ unfoldable pub firstWith : List ℕ → List ℕ → List ℕ → Option ℕ
 firstWith b l [] = none
 firstWith b l (i ∷ r) = cond (alike (labelOf b i) l) (some i) (firstWith b l r)
 
+-- on the chain that the label picks
 abbrev pub search : List ℕ → List ℕ → Option ℕ
 search b l = firstWith b l (chainOf b (headFor l))
 

@@ -6,6 +6,7 @@ use Prim.Native.Nat.{ℕ, _+_, _-_, _*_, _/_, _%_}
 use lib.Dec.{eqb}
 use lib.ListN.{length, getD, take, drop, replicate}
 
+-- "80-byte records"
 abbrev pub recordSize : ℕ
 recordSize = 80
 
@@ -13,7 +14,7 @@ recordSize = 80
 abbrev pub keyringLimit : ℕ
 keyringLimit = 65520
 
--- record 0 among them
+-- how many records the block has, record 0 among them
 abbrev pub records : List ℕ → ℕ
 records b = length b / recordSize
 
@@ -28,15 +29,23 @@ heads = 16
 abbrev pub headsSize : ℕ
 headsSize = heads * 2
 
+-- where head k stands
+abbrev pub headPlace : ℕ → ℕ
+headPlace k = k * 2
+
 abbrev pub headOf : List ℕ → ℕ → ℕ
-headOf b k = indexAt b (k * 2)
+headOf b k = indexAt b (headPlace k)
 
 -- "Every other record has next index (2 bytes), kind (0 for AES-128, 1 for AES-256), a zero byte, a label of 12 bytes and 64 bytes of handle"
 abbrev pub nextOf : List ℕ → ℕ → ℕ
 nextOf b i = indexAt b (i * recordSize)
 
+-- where the kind stands
+abbrev pub kindPlace : ℕ → ℕ
+kindPlace i = i * recordSize + 2
+
 abbrev pub kindOf : List ℕ → ℕ → ℕ
-kindOf b i = getD b (i * recordSize + 2) 0
+kindOf b i = getD b (kindPlace i) 0
 
 abbrev pub zeroOf : List ℕ → ℕ → ℕ
 zeroOf b i = getD b (i * recordSize + 3) 0

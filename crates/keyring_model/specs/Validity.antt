@@ -1,4 +1,4 @@
--- Refusal 15 of a block: "a wrong size, a head or any record's next index past the end, a record reached twice, a record 0 whose tail isn't zero, a kind or
+-- Change request (iv), refusal 15 of a block: "a wrong size, a head or any record's next index past the end, a record reached twice, a record 0 whose tail isn't zero, a kind or
 -- zero byte otherwise in any record".
 -- Assumes nothing.
 use mathlib.Core.Bool.{Bool, true, _&&_}
@@ -18,19 +18,22 @@ every (suc n) p = every n p && p n
 abbrev pub sizeValid : List ℕ → Bool
 sizeValid b = leb recordSize (length b) && leb (length b) keyringLimit && eqb (length b % recordSize) 0
 
+-- no head is "past the end": an index is below the number of records
 abbrev pub headsInside : List ℕ → Bool
 headsInside b = every heads (λ k. ltb (headOf b k) (records b))
 
--- record 0 behind its heads
+-- no "record 0 whose tail isn't zero": its bytes behind the heads
 abbrev pub tailZero : List ℕ → Bool
 tailZero b = every (recordSize - headsSize) (λ j. eqb (getD b (headsSize + j) 0) 0)
 
+-- no "next index past the end", no "kind or zero byte otherwise"
 abbrev pub recordValid : List ℕ → ℕ → Bool
 recordValid b i = ltb (nextOf b i) (records b) && ltb (kindOf b i) 2 && eqb (zeroOf b i) 0
 
--- record 1 and all behind it, on a chain or not
+-- "any record": record 1 and all behind it, on a chain or not
 abbrev pub recordsValid : List ℕ → Bool
 recordsValid b = every (records b - 1) (λ i. recordValid b (i + 1))
 
+-- and no "record reached twice", on one chain or on two
 unfoldable pub valid : List ℕ → Bool
 valid b = sizeValid b && headsInside b && tailZero b && recordsValid b && distinct (reached b)
