@@ -12,11 +12,11 @@ use borrow.Author.Tests.{eq-eqb, eqb-true, eqb-false, lt-ltb, le-leb}
 use Rattle.bits.proofs.Choice.{cond-on}
 use Rattle.keyring_model.specs.Records.{records, headOf, nextOf, kindOf, zeroOf, zeroFilled, handleOf, headFor}
 use Rattle.keyring_model.specs.Chains.{reached, distinct}
-use Rattle.keyring_model.specs.Validity.{sizeValid, headsInside, tailZero, recordValid, recordsValid, valid}
+use Rattle.keyring_model.specs.Validity.{sizeValid, headsInside, tailZero, recordValid, recordsValid, valid, fieldsValid}
 use Rattle.keyring_model.specs.Lookup.{search, Looked, unfound, looked, lookup}
 use Rattle.keyring_model.specs.Add.{kindFor}
 use Rattle.keyring_model.proofs.Walks.{every-all}
-use Rattle.keyring_model.proofs.Facts.{Sized, Fields, fields, fieldsValid, valid-fields}
+use Rattle.keyring_model.proofs.Facts.{Sized, Fields, fields, valid-fields}
 use Rattle.keyring_model.proofs.Inside.{Record, on-chain}
 use Rattle.keyring_model.proofs.Finding.{first-found, Kept, index-kept, looked-kept}
 

@@ -10,7 +10,7 @@ use lib.ListN.{length, getD}
 use borrow.Author.Tests.{eqb-true, leb-true, ltb-true}
 use Rattle.keyring_model.specs.Records.{records, headOf, nextOf, kindOf, zeroOf}
 use Rattle.keyring_model.specs.Chains.{reached, distinct}
-use Rattle.keyring_model.specs.Validity.{sizeValid, headsInside, tailZero, recordValid, recordsValid, valid}
+use Rattle.keyring_model.specs.Validity.{sizeValid, headsInside, tailZero, recordValid, recordsValid, fieldsValid, valid}
 use Rattle.keyring_model.proofs.Walks.{every-at}
 
 -- the parts of a test that both hold
@@ -40,9 +40,6 @@ pub record Fields (b : List ℕ) : Type 0 where
   pub next : (i : ℕ) → 0 < i → i < records b → nextOf b i < records b
   pub kind : (i : ℕ) → 0 < i → i < records b → kindOf b i < 2
   pub zero : (i : ℕ) → 0 < i → i < records b → zeroOf b i ≡ 0
-
-abbrev pub fieldsValid : List ℕ → Bool
-fieldsValid b = sizeValid b && headsInside b && tailZero b && recordsValid b
 
 record-facts : (b : List ℕ) (i : ℕ) → recordValid b i ≡ true → (nextOf b i < records b) × (kindOf b i < 2) × (zeroOf b i ≡ 0)
 record-facts b i e =

@@ -34,6 +34,10 @@ recordValid b i = ltb (nextOf b i) (records b) && ltb (kindOf b i) 2 && eqb (zer
 abbrev pub recordsValid : List ℕ → Bool
 recordsValid b = every (records b - 1) (λ i. recordValid b (i + 1))
 
+-- all of it but the chains
+abbrev pub fieldsValid : List ℕ → Bool
+fieldsValid b = sizeValid b && headsInside b && tailZero b && recordsValid b
+
 -- and no "record reached twice", on one chain or on two
 unfoldable pub valid : List ℕ → Bool
-valid b = sizeValid b && headsInside b && tailZero b && recordsValid b && distinct (reached b)
+valid b = fieldsValid b && distinct (reached b)

@@ -11,11 +11,10 @@ use lib.ListN.{length, getD}
 use borrow.Author.Tests.{eqb-true, eqb-false, le-ltb}
 use Rattle.keyring_model.specs.Records.{records, indexAt, nextOf, kindOf, zeroOf}
 use Rattle.keyring_model.specs.Chains.{reached, member, distinct}
-use Rattle.keyring_model.specs.Validity.{sizeValid, headsInside, tailZero, recordValid, recordsValid, valid}
+use Rattle.keyring_model.specs.Validity.{sizeValid, headsInside, tailZero, recordValid, recordsValid, valid, fieldsValid}
 use Rattle.keyring_model.proofs.Counts.{Below}
 use Rattle.keyring_model.proofs.Facts.{Fields, fields}
 use Rattle.keyring_model.proofs.Inside.{on-reached}
-use Rattle.keyring_validity.specs.Fields.{fieldsValid}
 use Rattle.keyring_validity.specs.Marks.{Unmarked, marked, Gives, Checked}
 use Rattle.keyring_validity.proofs.Marking.{given-some}
 use Rattle.keyring_validity.proofs.Distinct.{went, went-distinct, marked-tells}

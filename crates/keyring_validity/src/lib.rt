@@ -7,7 +7,6 @@ ghost use lib.ListN.{length, getD};
 ghost use Rattle.keyring_model.specs.Records as records;
 ghost use Rattle.keyring_model.specs.Chains.{chain, reached};
 ghost use Rattle.keyring_model.specs.Validity as validity;
-ghost use Rattle.keyring_validity.specs.Fields.{fieldsValid};
 ghost use Rattle.keyring_validity.specs.Marks.{Unmarked, Gives, marked, Checked};
 
 pub const RECORD_SIZE: usize = 80;
@@ -76,7 +75,7 @@ fn records_valid(keyring: &[u8], n: usize) -> bool
 }
 
 fn fields_valid(keyring: &[u8]) -> bool
-    ensures { λ r. ⌜ r ≡ fieldsValid (now (keyring .entry)) ⌝ }
+    ensures { λ r. ⌜ r ≡ validity.fieldsValid (now (keyring .entry)) ⌝ }
 {
     let size = keyring.len();
     if !size_valid(size) {
@@ -91,7 +90,7 @@ fn fields_valid(keyring: &[u8]) -> bool
 // Marks the records of a chain; whether none of them was marked already. Index 0 is marked from the start, so that one test ends a chain and finds a record
 // that is reached twice.
 fn mark_chain(keyring: &[u8], n: usize, head: usize, marks: &mut [u8]) -> bool
-    requires { ⌜ (fieldsValid (now keyring) ≡ true) × (n ≡ records.records (now keyring)) × (head < n) × (length (now marks) ≡ 819) × (getD (now marks) 0 0 ≡ 1) ⌝ }
+    requires { ⌜ (validity.fieldsValid (now keyring) ≡ true) × (n ≡ records.records (now keyring)) × (head < n) × (length (now marks) ≡ 819) × (getD (now marks) 0 0 ≡ 1) ⌝ }
     ensures { λ r. ⌜ Gives r (now (marks .exit)) (marked (now (marks .entry)) (chain n (now (keyring .entry)) head)) × (getD (now (marks .exit)) 0 0 ≡ 1) ⌝ }
 {
     let mut i = head;
@@ -110,7 +109,7 @@ fn mark_chain(keyring: &[u8], n: usize, head: usize, marks: &mut [u8]) -> bool
 }
 
 fn mark_chains(keyring: &[u8], marks: &mut [u8]) -> bool
-    requires { ⌜ (fieldsValid (now keyring) ≡ true) × (length (now marks) ≡ 819) × (getD (now marks) 0 0 ≡ 1) ⌝ }
+    requires { ⌜ (validity.fieldsValid (now keyring) ≡ true) × (length (now marks) ≡ 819) × (getD (now marks) 0 0 ≡ 1) ⌝ }
     ensures { λ r. ⌜ Gives r (now (marks .exit)) (marked (now (marks .entry)) (reached (now (keyring .entry)))) ⌝ }
 {
     let n = keyring.len() / RECORD_SIZE;
