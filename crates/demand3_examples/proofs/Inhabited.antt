@@ -24,7 +24,7 @@ use Rattle.isa.specs.declared.Operand.{Operand}
 use Rattle.isa.specs.declared.Operand.the-variants as operand
 use Rattle.model.specs.Records.{processorAt}
 use Rattle.model.specs.Cpu.{cpuSize, cplAt, xmm, zf, withXmm}
-use Rattle.model.specs.Calls.{StepCall, Call, step, reset, Answer}
+use Rattle.model.specs.Calls.{StepCall, Call, step, reset, taken, Answer}
 use Rattle.model.specs.Refusals.{tests, refusal}
 use Rattle.model.specs.Instructions.{encoded, aes, advanced, executed}
 use Rattle.model.specs.Execution.{perform, call, run, powerOn}
@@ -215,12 +215,12 @@ otherProcessor = plainly 0 (out 0 ∷ into 1 ∷ []) 1
 
 -- AESENC128KL xmm15, [rax]
 abbrev oldStore : Case
-oldStore = by (0xF3 ∷ 0x44 ∷ 0x0F ∷ 0x38 ∷ 0xDC ∷ 0x38 ∷ []) Aes128 (15 ∷ []) 0 (out 0 ∷ settling 0 ∷ sleeping 0 ∷ into 0 ∷ []) 0
+oldStore = by (0xF3 ∷ 0x44 ∷ 0x0F ∷ 0x38 ∷ 0xDC ∷ 0x38 ∷ []) Aes128 (15 ∷ []) 0 (out 0 ∷ taken ∷ settling 0 ∷ sleeping 0 ∷ into 0 ∷ []) 0
 
 -- AESENCWIDE128KL [rax]
 abbrev newStore : Case
 newStore =
-    by (0xF3 ∷ 0x0F ∷ 0x38 ∷ 0xD8 ∷ 0x00 ∷ []) Aes128 (0 ∷ 1 ∷ 2 ∷ 3 ∷ 4 ∷ 5 ∷ 6 ∷ 7 ∷ []) 0 (out 0 ∷ sleeping 1 ∷ into 0 ∷ []) 0
+    by (0xF3 ∷ 0x0F ∷ 0x38 ∷ 0xD8 ∷ 0x00 ∷ []) Aes128 (0 ∷ 1 ∷ 2 ∷ 3 ∷ 4 ∷ 5 ∷ 6 ∷ 7 ∷ []) 0 (out 0 ∷ taken ∷ sleeping 1 ∷ into 0 ∷ []) 0
 
 -- AESENC256KL xmm0, [rax]
 abbrev otherSize : Case

@@ -9,21 +9,22 @@ use lib.Dec.{eqb}
 use lib.ListN.{length, getD}
 use borrow.Author.Tests.{eqb-true, eq-eqb}
 use Rattle.bits.proofs.Choice.{cond-on, on-cond}
-use Rattle.model.specs.Calls.{PowerOn, ReadCall, WriteCall, Call, step, read, write, settle, sleep, reset, Answer}
+use Rattle.model.specs.Calls.{PowerOn, ReadCall, WriteCall, Call, step, read, write, settle, sleep, reset, taken, Answer}
 use Rattle.model.specs.Refusals.{first}
 use Rattle.model.specs.Execution.{powerOn, Run}
 use Rattle.model.specs.History.{nameAt, history}
 use Rattle.model.specs.Demand3.{held, Demand3}
 use Rattle.model.specs.Status.{StatusRegisters, ruleCalls, OperatorRule}
+use Rattle.model.specs.Taken.{struck, TakenUnseen}
 use Rattle.model.specs.Layout.{machineSize, machineBytes, machineAt}
 use Rattle.model.specs.Lent.{Lent, into, wrongSize, powerOnLent, callLent, runLent}
 use Rattle.model.specs.Records.{zeroKey}
 use Rattle.model.specs.declared.IwKey.{IwKey}
-use Rattle.model.proofs.Lent.{power-on-lent, demand-3-lent, status-registers-lent}
+use Rattle.model.proofs.Lent.{power-on-lent, demand-3-lent, status-registers-lent, taken-unseen-lent}
 use Rattle.model.proofs.Operator.{operator-rule}
 use Rattle.keylocker.specs.Meaning.{called}
 use Rattle.keylocker.specs.Promises.{answer, gave, PowerOnPromise, ReadPromise}
-use Rattle.keylocker.specs.Executions.{Chain, ended, stepped, didRead, wrote, settled, slept, wasReset, Execution}
+use Rattle.keylocker.specs.Executions.{Chain, ended, stepped, didRead, wrote, settled, slept, wasReset, wasTaken, Execution}
 use Rattle.keylocker.proofs.Finishing.{power-on-promised, cpuOf, valueOf, answer-as, promised, read-block, read-value, read-promised}
 
 -- ---- what is promised is what the model's calls give, one after another
@@ -55,6 +56,7 @@ chain-ran (wrote w n e l) = ran-more (write w) (answer n [] 0) e (chain-ran l)
 chain-ran (settled s n e l) = ran-more (settle s) (answer n [] 0) e (chain-ran l)
 chain-ran (slept s n e l) = ran-more (sleep s) (answer n [] 0) e (chain-ran l)
 chain-ran (wasReset n e l) = ran-more reset (answer n [] 0) e (chain-ran l)
+chain-ran (wasTaken n e l) = ran-more taken (answer n [] 0) e (chain-ran l)
 
 module _ (p : PowerOn) (calls : List Call) (r : Run) (x : Execution p calls r) where
   powered : powerOnLent (x .lent) p .answer .number ≡ 0
@@ -91,6 +93,16 @@ pub operator-rule-c : (p : PowerOn) (r : Run) (xs : List Call) (w : WriteCall) (
     × (_≡_ {A = Option IwKey} (held (r .machine) .store) (some (getD (held (r .machine) .processors) (w .processor) zeroKey)))
 operator-rule-c p r xs w c ys v x o =
     let calls = ruleCalls xs w c ys v in operator-rule p r xs w c ys v (demand-3-c p calls r x) (status-registers-c p calls r x) o
+
+-- an execution of the calls, and one with every `taken` struck out
+pub taken-unseen-c : (p : PowerOn) (calls : List Call) (r s : Run) → Execution p calls r → Execution p (struck calls) s → TakenUnseen p calls r s
+taken-unseen-c p calls r s x y =
+    let on = power-on-lent (x .lent) p (powered p calls r x) .1 in
+    let without : runLent (powerOnLent (x .lent) p .block) (struck calls) ≡ s =
+    ap (λ (b : List ℕ). runLent b (struck calls)) on ∙ execution-run p (struck calls) s y in
+    subst (TakenUnseen p calls r) without
+    (subst (λ (z : Run). TakenUnseen p calls z (runLent (powerOnLent (x .lent) p .block) (struck calls))) (lent-run p calls r x)
+    (taken-unseen-lent (x .lent) p (powered p calls r x) calls))
 
 -- ---- one execution, and no other
 
@@ -141,6 +153,7 @@ module _ (block : List ℕ) (old : ℕ) (l : List Call) where
   chain-more (settle s) x = subst (With (settle s)) (sym (answer-as block (settle s))) (settled s _ (whole (settle s)) x)
   chain-more (sleep s) x = subst (With (sleep s)) (sym (answer-as block (sleep s))) (slept s _ (whole (sleep s)) x)
   chain-more reset x = subst (With reset) (sym (answer-as block reset)) (wasReset _ (whole reset) x)
+  chain-more taken x = subst (With taken) (sym (answer-as block taken)) (wasTaken _ (whole taken) x)
 
 chain-of : (block : List ℕ) (old : ℕ) (calls : List Call) → Chain block calls (runLent block calls .answers) (blockAfter block calls)
 chain-of block old [] = ended

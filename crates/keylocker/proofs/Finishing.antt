@@ -11,7 +11,7 @@ use lib.ListN.{length}
 use lib.Seq.{sets, getD-set-same}
 use borrow.Author.Tests.{eqb-true, eqb-false, eq-eqb, ne-eqb}
 use Rattle.bits.proofs.Choice.{cond-on, cond-off, on-cond}
-use Rattle.model.specs.Calls.{PowerOn, StepCall, ReadCall, Call, step, read, write, settle, sleep, reset}
+use Rattle.model.specs.Calls.{PowerOn, StepCall, ReadCall, Call, step, read, write, settle, sleep, reset, taken, onStep}
 use Rattle.model.specs.Calls as calls
 use Rattle.model.specs.Execution.{powerOnRefusal, refused, perform, numberOf, call, powerOn}
 use Rattle.model.specs.Layout.{entrySize, machineSize, entryBytes, machineBytes, machineAt}
@@ -38,12 +38,7 @@ use Rattle.keylocker.specs.Promises.{answer, gave, PowerOnPromise, StepP
 -- ---- what an answer can hold: a CPU record if the call is a step, a value if it is a read
 
 abbrev pub cpuOf : Call → List ℕ → List ℕ
-cpuOf (step s) cpu = cpu
-cpuOf (read r) cpu = []
-cpuOf (write w) cpu = []
-cpuOf (settle s) cpu = []
-cpuOf (sleep s) cpu = []
-cpuOf reset cpu = []
+cpuOf c cpu = onStep (λ s. cpu) [] c
 
 abbrev pub valueOf : Call → ℕ → ℕ
 valueOf (step s) v = 0
@@ -52,6 +47,7 @@ valueOf (write w) v = 0
 valueOf (settle s) v = 0
 valueOf (sleep s) v = 0
 valueOf reset v = 0
+valueOf taken v = 0
 
 abbrev shown : Call → calls.Answer → calls.Answer
 shown c a = answer (a .number) (cpuOf c (a .cpu)) (valueOf c (a .value))
@@ -64,6 +60,7 @@ performed-as m (write w) = refl
 performed-as m (settle s) = refl
 performed-as m (sleep s) = refl
 performed-as m reset = refl
+performed-as m taken = refl
 
 refused-as : (n : ℕ) (m : Machine) (c : Call) → refused n m c .answer ≡ shown c (refused n m c .answer)
 refused-as n m (step s) = refl
@@ -72,6 +69,7 @@ refused-as n m (write w) = refl
 refused-as n m (settle s) = refl
 refused-as n m (sleep s) = refl
 refused-as n m reset = refl
+refused-as n m taken = refl
 
 pub answer-as : (block : List ℕ) (c : Call) → callLent block c .answer ≡ shown c (callLent block c .answer)
 unfolding callLent

@@ -6,10 +6,10 @@ use mathlib.Core.Bool.{cond}
 use mathlib.Core.List.{List, [], _∷_}
 use Prim.Native.Nat.{ℕ}
 use lib.Dec.{eqb}
-use Rattle.model.specs.Calls.{PowerOn, StepCall, ReadCall, WriteCall, SettleCall, SleepCall, Call, step, read, write, settle, sleep, reset, Answer}
+use Rattle.model.specs.Calls.{PowerOn, StepCall, ReadCall, WriteCall, SettleCall, SleepCall, Call, step, read, write, settle, sleep, reset, taken, Answer}
 use Rattle.model.specs.Execution.{Run}
 use Rattle.model.specs.Layout.{machineAt}
-use Rattle.keylocker.specs.Promises.{answer, PowerOnPromise, StepPromise, ReadPromise, WritePromise, SettlePromise, SleepPromise, ResetPromise}
+use Rattle.keylocker.specs.Promises.{answer, PowerOnPromise, StepPromise, ReadPromise, WritePromise, SettlePromise, SleepPromise, ResetPromise, TakenPromise}
 
 -- from a block, by calls, with these answers, to a block
 pub data Chain : List ℕ → List Call → List Answer → List ℕ → Type 0 where
@@ -28,6 +28,8 @@ pub data Chain : List ℕ → List Call → List Answer → List ℕ → Type 0 
       → SleepPromise before s after number → Chain after calls answers last → Chain before (sleep s ∷ calls) (answer number [] 0 ∷ answers) last
   wasReset : {before after last : List ℕ} {calls : List Call} {answers : List Answer} (number : ℕ)
       → ResetPromise before after number → Chain after calls answers last → Chain before (reset ∷ calls) (answer number [] 0 ∷ answers) last
+  wasTaken : {before after last : List ℕ} {calls : List Call} {answers : List Answer} (number : ℕ)
+      → TakenPromise before after number → Chain after calls answers last → Chain before (taken ∷ calls) (answer number [] 0 ∷ answers) last
 
 -- a power-on that answered 0, on a block that held anything, and then the calls; r is what they answered and the machine in the block at the end
 pub record Execution (p : PowerOn) (calls : List Call) (r : Run) : Type 0 where

@@ -6,7 +6,7 @@ use mathlib.Core.Bool.{cond}
 use mathlib.Core.List.{List, []}
 use Prim.Native.Nat.{ℕ}
 use lib.Dec.{eqb}
-use Rattle.model.specs.Calls.{PowerOn, StepCall, ReadCall, WriteCall, SettleCall, SleepCall, step, read, write, settle, sleep, reset, Answer}
+use Rattle.model.specs.Calls.{PowerOn, StepCall, ReadCall, WriteCall, SettleCall, SleepCall, step, read, write, settle, sleep, reset, taken, Answer}
 use Rattle.model.specs.Lent.{Lent, powerOnLent, callLent}
 use Rattle.cpuid_model.specs.Calls.{CpuidCall, identifyLent}
 use Rattle.cpuid_model.specs.declared.Leaf.{Leaf}
@@ -50,6 +50,10 @@ SleepPromise before s after number = gave after number [] 0 ≡ callLent before 
 -- keylocker_reset
 abbrev pub ResetPromise : List ℕ → List ℕ → ℕ → Type 0
 ResetPromise before after number = gave after number [] 0 ≡ callLent before reset
+
+-- keylocker_taken
+abbrev pub TakenPromise : List ℕ → List ℕ → ℕ → Type 0
+TakenPromise before after number = gave after number [] 0 ≡ callLent before taken
 
 -- keylocker_cpuid: block and CPU record are lent shared, so they are the same at exit; the four registers, at entry and at exit
 abbrev pub CpuidPromise : List ℕ → CpuidCall → Leaf → Leaf → ℕ → Type 0

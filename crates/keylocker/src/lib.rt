@@ -3,7 +3,7 @@ ghost use mathlib.Core.Path.{_≡_};
 ghost use lib.ListN.{length};
 ghost use Rattle.model.specs.Layout.{machineSize};
 ghost use Rattle.keylocker.specs.Meaning.{called, finished};
-ghost use Rattle.keylocker.specs.Promises.{PowerOnPromise, StepPromise, ReadPromise, WritePromise, SettlePromise, SleepPromise, ResetPromise, CpuidPromise, KeyringLookupPromise, KeyringAddPromise};
+ghost use Rattle.keylocker.specs.Promises.{PowerOnPromise, StepPromise, ReadPromise, WritePromise, SettlePromise, SleepPromise, ResetPromise, TakenPromise, CpuidPromise, KeyringLookupPromise, KeyringAddPromise};
 use layout::read_machine;
 use layout_write::write_entry;
 use layout_write::write_machine;
@@ -68,6 +68,17 @@ pub extern "C" fn keylocker_reset(machine: &mut [u8]) -> u32
     }
     let m = read_machine(machine);
     finish(machine, machine::reset(m))
+}
+
+#[no_mangle]
+pub extern "C" fn keylocker_taken(machine: &mut [u8]) -> u32
+    ensures { λ r. ⌜ TakenPromise (now (machine .entry)) (now (machine .exit)) r ⌝ }
+{
+    if machine.len() != MACHINE_SIZE {
+        return 1;
+    }
+    let m = read_machine(machine);
+    finish(machine, machine::taken(m))
 }
 
 // ---- the backup registers

@@ -1,8 +1,8 @@
-// The machine by value: power-on, register calls, settle, sleep, reset, and CPUID. A step is in `step`.
+// The machine by value: power-on, register calls, settle, sleep, reset, taken, and CPUID. A step is in `step`.
 ghost use mathlib.Core.Path.{_≡_};
 ghost use Prim.Native.Nat.{_%_};
 ghost use lib.ListN.{getD, set, replicate};
-ghost use Rattle.model.specs.Calls.{read, write, settle, sleep, reset};
+ghost use Rattle.model.specs.Calls.{read, write, settle, sleep, reset, taken};
 ghost use Rattle.model.specs.Execution as execution;
 ghost use Rattle.model.specs.Records.{processorLimit, zeroKey, zeroProcessor, noProcessor, withProcessors};
 ghost use Rattle.step.specs.declared.Answer.the-variants.{Done, Refused};
@@ -161,6 +161,18 @@ pub fn reset(m: Machine) -> Outcome
         return refused(m, 1);
     }
     done(zeroed(m.count, m.features, zero_platform()))
+}
+
+pub fn taken(m: Machine) -> Outcome
+    ensures { λ r. ⌜ r ≡ outcomeOf (execution.call m taken) ⌝ }
+{
+    if !valid(m) {
+        return refused(m, 1);
+    }
+    let f = m.platform;
+    let mut n = m;
+    n.platform = platform::note_taken(f);
+    done(n)
 }
 
 // ---- the backup registers

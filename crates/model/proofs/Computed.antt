@@ -10,7 +10,7 @@ use lib.ListN.{replicate}
 use Rattle.isa.specs.Decode.{decodeAt, modrmOf, instructionOf}
 use Rattle.model.specs.Records.{holding}
 use Rattle.model.specs.Cpu.{withXmm}
-use Rattle.model.specs.Calls.{PowerOn, Call, step, write, settle, sleep, reset}
+use Rattle.model.specs.Calls.{PowerOn, Call, step, write, settle, sleep, reset, taken}
 use Rattle.model.specs.Validity.{valid}
 use Rattle.model.specs.Refusals.{tests, refusal}
 use Rattle.model.specs.Instructions.{loadedKey}
@@ -18,6 +18,7 @@ use Rattle.model.specs.Execution.{run, powerOn}
 use Rattle.model.specs.History.{History, copiedOut, settledNames, moved, history}
 use Rattle.model.specs.Demand3.{Holding, held, named, given}
 use Rattle.model.specs.Status.{copyStatus, backedUp}
+use Rattle.model.specs.Taken.{struck}
 use Rattle.model.specs.Examples.{rax, onProcessor, loadIwKey}
 use Rattle.model.specs.declared.IwKey.{IwKey}
 use Rattle.model.specs.declared.Processor.{Processor}
@@ -104,6 +105,9 @@ lines =
     ∷ line (pending ++ sleeping 2 ∷ []) 0 0 none none 0 0 0 false
     ∷ line (stored ++ sleeping 1 ∷ []) 0 0 (some 1) (some 1) 0 0 0 true
     ∷ line (stored ++ sleeping 2 ∷ []) 0 0 none none 0 0 0 false
+    -- taken, while pending and not
+    ∷ line (pending ++ taken ∷ []) 4 0 (some 4) (some 1) 1 1 0 false
+    ∷ line (stored ++ taken ∷ []) 1 0 (some 1) (some 1) 0 1 0 true
     -- reset
     ∷ line (stored ++ reset ∷ []) 0 0 none none 0 0 0 false
     ∷ []
@@ -114,6 +118,11 @@ left l = record { names = history two l; copyStatuses = copyStatus two l 0 ∷ c
 pub names-computed : map (λ l. left (l .calls)) lines ≡ map (λ l. l .left) lines
 unfolding refusal tests moved copiedOut settledNames decodeAt modrmOf instructionOf
 names-computed = refl
+
+-- every `taken` is struck out, and nothing else
+pub struck-computed : struck (out 0 ∷ taken ∷ taken ∷ settling 0 ∷ sleeping 1 ∷ reset ∷ load 0 0 [] 1 ∷ taken ∷ [])
+    ≡ out 0 ∷ settling 0 ∷ sleeping 1 ∷ reset ∷ load 0 0 [] 1 ∷ []
+struck-computed = refl
 
 -- which numbers of calls are names: 0, and that of a load; not that of a write, a load that is not ready, a refused one, or past the end
 pub given-computed : map (given two (load 0 0 [] 1 ∷ out 0 ∷ load 0 2 [] 2 ∷ load 2 0 [] 3 ∷ [])) (0 ∷ 1 ∷ 2 ∷ 3 ∷ 4 ∷ 5 ∷ [])

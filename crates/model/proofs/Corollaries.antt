@@ -12,7 +12,7 @@ use lib.Seq.{append-snoc}
 use borrow.Author.Tests.{eqb-true, eq-eqb, ne-eqb, leb-true, le-leb}
 use Rattle.bits.proofs.Choice.{and-left, and-right, and-both, T-true, true-T, on-cond}
 use Rattle.model.specs.Numbers.{bit}
-use Rattle.model.specs.Calls.{PowerOn, Call, step, read, write, settle, sleep, reset}
+use Rattle.model.specs.Calls.{PowerOn, Call, step, read, write, settle, sleep, reset, taken}
 use Rattle.model.specs.Refusals.{refusal}
 use Rattle.model.specs.Execution.{run, powerOn}
 use Rattle.model.specs.History.{History, atFirst, viewGiven, noBackupIn, noBackupOf, nameAt, renamed, loads, sent, copiedOut, gets, settledNames, nameKept, moved, next, historyFrom, history}
@@ -115,6 +115,7 @@ module _ (p : PowerOn) (past : List Call) (f g f′ g′ : ℕ → Bool) (s : St
   moved-pass (settle c) = settled-pass (c .code)
   moved-pass (sleep c) = record { names = zeros; backup = kept-slot (c .code); store = kept-slot (c .code) }
   moved-pass reset = record { names = zeros; backup = tt; store = tt }
+  moved-pass taken = kept
 
   next-pass : (c : Call) → Pass f′ g′ (next p past c h)
   next-pass c = on-cond (Pass f′ g′) (eqb (refusal (viewGiven p) c) 0) (moved p past c h) h (λ e. moved-pass c) (λ e. kept)

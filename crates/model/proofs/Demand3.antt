@@ -22,7 +22,7 @@ use Rattle.isa.proofs.Ranges.{outside-ends, length-some}
 use Rattle.model.specs.Records.{processorAt}
 use Rattle.model.specs.Cpu.{xmm, zf}
 use Rattle.model.specs.Forms.{Form, single, wide, formOf, handleAddress, handleRead}
-use Rattle.model.specs.Calls.{PowerOn, StepCall, Call, step, read, write, settle, sleep, reset, Answer, Outcome}
+use Rattle.model.specs.Calls.{PowerOn, StepCall, Call, step, Answer, Outcome}
 use Rattle.model.specs.Refusals.{View, refusal}
 use Rattle.model.specs.Instructions.{encodedHandle, used, execute, advanced, stepped, executed}
 use Rattle.model.specs.Execution.{perform, call, run, powerOn}
@@ -34,7 +34,7 @@ use Rattle.model.proofs.Parts.{part-length}
 use Rattle.model.proofs.Cpu.{registers}
 use Rattle.model.proofs.Addresses.{handle-below-64}
 use Rattle.model.proofs.Uses.{handle-given, use-zf, use-xmm}
-use Rattle.model.proofs.Frames.{call-performed, call-number}
+use Rattle.model.proofs.Frames.{step-only, call-performed, call-number}
 use Rattle.model.proofs.Refusals.{processor-below, cpu-length, memory-length, handle-inside, never-1}
 use Rattle.model.proofs.Validities.{power-on-valid}
 use Rattle.model.proofs.Histories.{Holds, key-at, name-given, key-more, number-told, holds-first, holds-run, numbers-run}
@@ -46,44 +46,34 @@ encode-cases : (Q : Call → Encode → Type 0)
     → ((s : StepCall) (i : EncodeKey) (lock : Bool) (bytes : ℕ) → decode (s .string) ≡ decoded.Found (instruction.EncodeKey i) lock bytes
     → Q (step s) (encodeMade s i))
     → (c : Call) (e : Encode) → _≡_ {A = Option Encode} (encodeOf c) (some e) → Q c e
-encode-cases Q f (step s) e q = go (decode (s .string)) refl q
+encode-cases Q f = step-only (λ s. encodeIn s (decode (s .string))) Q (λ s e q. go s e (decode (s .string)) refl q)
   where
-    go : (d : Decoded) → decode (s .string) ≡ d → _≡_ {A = Option Encode} (encodeIn s d) (some e) → Q (step s) e
-    go (decoded.Found (instruction.Use u) lock bytes) r q = absurd (Option·none-ne-some e q)
-    go (decoded.Found (instruction.WideUse u) lock bytes) r q = absurd (Option·none-ne-some e q)
-    go (decoded.Found (instruction.LoadIwKey l) lock bytes) r q = absurd (Option·none-ne-some e q)
-    go (decoded.Found (instruction.EncodeKey i) lock bytes) r q =
+    go : (s : StepCall) (e : Encode) (d : Decoded) → decode (s .string) ≡ d → _≡_ {A = Option Encode} (encodeIn s d) (some e) → Q (step s) e
+    go s e (decoded.Found (instruction.Use u) lock bytes) r q = absurd (Option·none-ne-some e q)
+    go s e (decoded.Found (instruction.WideUse u) lock bytes) r q = absurd (Option·none-ne-some e q)
+    go s e (decoded.Found (instruction.LoadIwKey l) lock bytes) r q = absurd (Option·none-ne-some e q)
+    go s e (decoded.Found (instruction.EncodeKey i) lock bytes) r q =
         subst (λ (x : Encode). Q (step s) x) (Option·some-injective (encodeMade s i) e q) (f s i lock bytes r)
-    go decoded.BadByte r q = absurd (Option·none-ne-some e q)
-    go decoded.EndOfString r q = absurd (Option·none-ne-some e q)
-encode-cases Q f (read r) e q = absurd (Option·none-ne-some e q)
-encode-cases Q f (write w) e q = absurd (Option·none-ne-some e q)
-encode-cases Q f (settle s) e q = absurd (Option·none-ne-some e q)
-encode-cases Q f (sleep s) e q = absurd (Option·none-ne-some e q)
-encode-cases Q f reset e q = absurd (Option·none-ne-some e q)
+    go s e decoded.BadByte r q = absurd (Option·none-ne-some e q)
+    go s e decoded.EndOfString r q = absurd (Option·none-ne-some e q)
 
 -- a property of every call that is a use
 use-cases : (Q : Call → UseMade → Type 0)
     → ((s : StepCall) (what : Instruction) (lock : Bool) (bytes : ℕ) (f : Form) → decode (s .string) ≡ decoded.Found what lock bytes
     → _≡_ {A = Option Form} (formOf what) (some f) → Q (step s) (useMade s bytes f))
     → (c : Call) (u : UseMade) → _≡_ {A = Option UseMade} (useOf c) (some u) → Q c u
-use-cases Q g (step s) u q = go (decode (s .string)) refl q
+use-cases Q g = step-only (λ s. useIn s (decode (s .string))) Q (λ s u q. go s u (decode (s .string)) refl q)
   where
-    found : (what : Instruction) (lock : Bool) (bytes : ℕ) → decode (s .string) ≡ decoded.Found what lock bytes
+    found : (s : StepCall) (u : UseMade) (what : Instruction) (lock : Bool) (bytes : ℕ) → decode (s .string) ≡ decoded.Found what lock bytes
         → (o : Option Form) → _≡_ {A = Option Form} (formOf what) o → _≡_ {A = Option UseMade} (Option·map (useMade s bytes) o) (some u) → Q (step s) u
-    found what lock bytes r none t q = absurd (Option·none-ne-some u q)
-    found what lock bytes r (some f) t q =
+    found s u what lock bytes r none t q = absurd (Option·none-ne-some u q)
+    found s u what lock bytes r (some f) t q =
         subst (λ (x : UseMade). Q (step s) x) (Option·some-injective (useMade s bytes f) u q) (g s what lock bytes f r t)
 
-    go : (d : Decoded) → decode (s .string) ≡ d → _≡_ {A = Option UseMade} (useIn s d) (some u) → Q (step s) u
-    go (decoded.Found what lock bytes) r q = found what lock bytes r (formOf what) refl q
-    go decoded.BadByte r q = absurd (Option·none-ne-some u q)
-    go decoded.EndOfString r q = absurd (Option·none-ne-some u q)
-use-cases Q g (read r) u q = absurd (Option·none-ne-some u q)
-use-cases Q g (write w) u q = absurd (Option·none-ne-some u q)
-use-cases Q g (settle s) u q = absurd (Option·none-ne-some u q)
-use-cases Q g (sleep s) u q = absurd (Option·none-ne-some u q)
-use-cases Q g reset u q = absurd (Option·none-ne-some u q)
+    go : (s : StepCall) (u : UseMade) (d : Decoded) → decode (s .string) ≡ d → _≡_ {A = Option UseMade} (useIn s d) (some u) → Q (step s) u
+    go s u (decoded.Found what lock bytes) r q = found s u what lock bytes r (formOf what) refl q
+    go s u decoded.BadByte r q = absurd (Option·none-ne-some u q)
+    go s u decoded.EndOfString r q = absurd (Option·none-ne-some u q)
 
 -- the CPU record after an instruction that was decoded
 executed-cpu : (s : StepCall) (k : IwKey) (what : Instruction) (lock : Bool) (bytes : ℕ) → decode (s .string) ≡ decoded.Found what lock bytes

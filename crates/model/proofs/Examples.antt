@@ -22,10 +22,10 @@ use Rattle.model.specs.Cpu.{xmmAt, xmm, register, withXmm, withRegister,
 use Rattle.model.specs.Validity.{validProcessors, valid}
 use Rattle.model.specs.Refusals.{tests, refusal}
 use Rattle.model.specs.Instructions.{encoded, openedFor, aes, ciphered, used, loadedKey, advanced, executed}
-use Rattle.model.specs.Backup.{copyOut, settled, woken}
+use Rattle.model.specs.Backup.{copyOut, settled, withTaken, woken}
 use Rattle.model.specs.Execution.{perform, call}
 use Rattle.model.specs.declared.IwKey.{IwKey}
-use Rattle.model.specs.Examples.{AllFulfilled, rax, rip, cpu, randomKey, xmm3Cpu, examples, addressSizeExamples}
+use Rattle.model.specs.Examples.{AllFulfilled, rax, rip, cpu, randomKey, xmm3Cpu, examples, addressSizeExamples, takenExamples}
 use Rattle.model.proofs.Uses.{aes-length}
 
 -- ---- the examples that encode: what is seen of them does not depend on the tag and the ciphertext
@@ -135,4 +135,14 @@ address-size-hold =
     (refl, refl) also (refl, refl) also (refl, tt) also
     -- the grammar
     (refl, tt) also (refl, tt) also (refl, tt) also (refl, tt) also (refl, tt) also (refl, tt) also (refl, tt) also
+    tt
+
+pub taken-hold : AllFulfilled takenExamples
+unfolding call valid validProcessors refusal tests perform copyOut settled withTaken woken
+taken-hold =
+    -- pending, nothing pending, 0xD91, sleep
+    (refl, refl) also (refl, refl) also (refl, refl) also (refl, refl) also
+    (refl, refl) also (refl, refl) also
+    (refl, refl) also (refl, refl) also (refl, refl) also (refl, refl) also
+    (refl, refl) also
     tt

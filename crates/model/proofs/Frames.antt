@@ -3,6 +3,7 @@
 use mathlib.Core.Path.{_≡_, _∙_, refl, sym, ap, subst}
 use mathlib.Core.Bool.{Bool, true, false, cond, not}
 use mathlib.Core.List.{List}
+use mathlib.Core.Option.{Option, none, some, Option·none-ne-some}
 use Prim.Native.Nat.{ℕ}
 use native.Mathlib.Nat.{suc-ne-zero}
 use lib.Dec.{T, eqb}
@@ -10,7 +11,7 @@ use borrow.Author.Tests.{eqb-true, eqb-false, eq-eqb, ne-eqb}
 use lib.ListN.{getD, set, List·getD-map}
 use lib.Seq.{set-getD, getD-set-other, map-set-same}
 use Rattle.bits.proofs.Choice.{cond-on, cond-off}
-use Rattle.model.specs.Calls.{StepCall, ReadCall, Call, step, read, write, settle, sleep, reset, Outcome}
+use Rattle.model.specs.Calls.{StepCall, ReadCall, Call, step, read, write, settle, sleep, reset, taken, onStep, Outcome}
 use Rattle.model.specs.Validity.{valid}
 use Rattle.model.specs.Refusals.{refusal}
 use Rattle.isa.specs.Decode.{decode}
@@ -27,6 +28,18 @@ use Rattle.model.specs.Records.{noProcessor, processorAt, withKey, withP
 use Rattle.model.specs.declared.Processor.{Processor}
 use Rattle.model.specs.declared.Machine.{Machine}
 
+-- ---- what only a step has
+
+pub step-only : {A : Type 0} (f : StepCall → Option A) (Q : Call → A → Type 0) → ((s : StepCall) (x : A) → _≡_ {A = Option A} (f s) (some x) → Q (step s) x)
+    → (c : Call) (x : A) → _≡_ {A = Option A} (onStep f none c) (some x) → Q c x
+step-only f Q g (step s) x q = g s x q
+step-only f Q g (read r) x q = absurd (Option·none-ne-some x q)
+step-only f Q g (write w) x q = absurd (Option·none-ne-some x q)
+step-only f Q g (settle s) x q = absurd (Option·none-ne-some x q)
+step-only f Q g (sleep s) x q = absurd (Option·none-ne-some x q)
+step-only f Q g reset x q = absurd (Option·none-ne-some x q)
+step-only f Q g taken x q = absurd (Option·none-ne-some x q)
+
 -- ---- a call is refused or performed
 
 performed-number : (m : Machine) (c : Call) → perform m c .answer .number ≡ 0
@@ -37,6 +50,7 @@ performed-number m (write w) = refl
 performed-number m (settle s) = refl
 performed-number m (sleep s) = refl
 performed-number m reset = refl
+performed-number m taken = refl
 
 module _ (m : Machine) (c : Call) where
   pub call-performed : numberOf m c ≡ 0 → call m c ≡ perform m c

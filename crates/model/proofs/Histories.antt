@@ -17,9 +17,9 @@ use Rattle.model.specs.Records.{processorLimit, zeroKey, zeroProcessor, 
 use Rattle.model.specs.Numbers.{bit}
 use Rattle.model.specs.Forms.{noBackup, keySource}
 use Rattle.model.specs.Instructions.{plainKey, mixedWith, loadedKey, executed}
-use Rattle.model.specs.Backup.{Copied, copyOut, copyIn, written, settled, storeKept, woken}
+use Rattle.model.specs.Backup.{Copied, copyOut, copyIn, written, settled, withTaken, storeKept, woken}
 use Rattle.model.specs.Execution.{zeroPlatform, fresh, viewOf, perform, numberOf, call, run}
-use Rattle.model.specs.Calls.{PowerOn, StepCall, WriteCall, Call, step, read, write, settle, sleep, reset}
+use Rattle.model.specs.Calls.{PowerOn, StepCall, WriteCall, Call, step, read, write, settle, sleep, reset, taken}
 use Rattle.model.specs.Validity.{valid}
 use Rattle.model.specs.Refusals.{View, refusal}
 use Rattle.model.specs.History.{History, atFirst, viewGiven, callAt, noBackupIn, noBackupOf, loadIn, makes, keyMade, keyIn, keyOf, nameAt, renamed, loads, copiesOut, sent, copiedOut, gets, settledNames, nameKept, wokenNames, moved, next, historyFrom, refusals}
@@ -160,6 +160,7 @@ no-backup-small past (suc i) = go (callAt past i)
     go (settle s) = omega arith
     go (sleep s) = omega arith
     go reset = omega arith
+    go taken = omega arith
 
 key-no-backup : (p : PowerOn) (past : List Call) (n : ℕ) → T (given p past n) → keyOf past n .«no_backup» ≡ noBackupOf past n
 unfolding loadedKey
@@ -182,6 +183,7 @@ key-no-backup p past (suc i) t =
     go (settle s) t = refl
     go (sleep s) t = refl
     go reset t = refl
+    go taken t = refl
 
 -- ---- one call
 
@@ -466,6 +468,17 @@ module _ (p : PowerOn) (past : List Call) (c : Call) (m : Machine) (h : History)
           processors-stay (m .platform) (h .backup) (h .store) (h .pending) backup-named store-named (λ j. inv .keys j .pending) (every .backup)
           (every .store)
 
+  -- consumed is no key
+  taken-moved : Moved p calls (withPlatform (withTaken (m .platform)) m) h
+  unfolding withTaken
+  taken-moved =
+      let stays : (n : ℕ) → Moved p calls (withPlatform (withConsumed n (m .platform)) m) h =
+      λ n.
+      processors-stay (withConsumed n (m .platform)) (h .backup) (h .store) (h .pending) backup-named store-named (λ j. inv .keys j .pending) (every .backup)
+      (every .store) in
+      on-cond (λ f. Moved p calls (withPlatform f m) h) (eqb (m .platform .pending) 1) (withConsumed 1 (m .platform)) (m .platform) (λ e. stays 1)
+      (λ e. stays (m .platform .consumed))
+
   -- all processors zero: each has name 0
   zeros-moved : (f : Platform) (b s : Option ℕ) (w : ℕ) → _≡_ {A = Option IwKey} (slotKey (f .backup)) (Option·map (keyOf calls) b)
       → _≡_ {A = Option IwKey} (slotKey (f .store)) (Option·map (keyOf calls) s) → f .pending ≡ w
@@ -544,6 +557,7 @@ performed-moved p past (write w) m h inv a =
 performed-moved p past (settle s) m h inv a = settle-moved p past (settle s) m h (more-past p past (settle s) m h inv) (s .code)
 performed-moved p past (sleep s) m h inv a = sleep-moved p past (sleep s) m h (more-past p past (sleep s) m h inv) (s .code)
 performed-moved p past reset m h inv a = reset-moved p past reset m h (more-past p past reset m h inv)
+performed-moved p past taken m h inv a = taken-moved p past taken m h (more-past p past taken m h inv)
 
 module _ (p : PowerOn) (past : List Call) (c : Call) (m : Machine) (h : History) (inv : Holds p past m h) where
   -- the machine's number is the history machine's refusal

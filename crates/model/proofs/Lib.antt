@@ -12,6 +12,7 @@ pub mod Corollaries
 pub mod Status
 pub mod Registers
 pub mod Operator
+pub mod Taken
 pub mod Bytes
 pub mod Shapes
 pub mod InPlace

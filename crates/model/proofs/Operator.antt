@@ -14,7 +14,7 @@ use Rattle.bits.proofs.Choice.{cond-off, and-left, and-right, T-true, true-T, o
 use Rattle.isa.specs.Decode.{decodeAt, modrmOf, instructionOf}
 use Rattle.model.specs.Numbers.{bit}
 use Rattle.model.specs.Records.{zeroKey}
-use Rattle.model.specs.Calls.{PowerOn, ReadCall, WriteCall, Call, step, read, write, settle, sleep, reset, Answer}
+use Rattle.model.specs.Calls.{PowerOn, ReadCall, WriteCall, Call, step, read, write, settle, sleep, reset, taken, Answer}
 use Rattle.model.specs.Validity.{validProcessors, valid}
 use Rattle.model.specs.Refusals.{tests, refusal}
 use Rattle.model.specs.Instructions.{loadedKey, executed}
@@ -71,6 +71,7 @@ module _ (p : PowerOn) (q : ℕ) where
         (record { names = h .names; backup = h .backup; store = cond (eqb (s .code) 0) (h .backup) none; pending = 0 }) h (λ e. t) (λ e. t)
     moved-leaves (sleep s) u = absurd u
     moved-leaves reset u = absurd u
+    moved-leaves taken u = t
 
     next-leaves : (c : Call) → T (not (accepted p c) || leaves past h q c) → BackedUp (next p past c h)
     next-leaves c u = go (accepted p c) u

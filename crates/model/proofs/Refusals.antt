@@ -1,9 +1,9 @@
 -- The numbered tests: a call that none refuses fails them all; no refusal of the list is 1.
 -- Assumes nothing.
 use mathlib.Core.Path.{_≡_, _∙_, refl, sym, ap, subst}
-use mathlib.Core.Bool.{Bool, true, false, cond, not, _&&_, or-false}
+use mathlib.Core.Bool.{Bool, true, false, cond, not, _&&_, _||_, or-false}
 use mathlib.Core.List.{List, [], _∷_}
-use mathlib.Core.Option.{some}
+use mathlib.Core.Option.{Option, none, some}
 use Prim.Native.Nat.{ℕ, zero, suc, _<_, _≤_}
 use lib.Dec.{T, eqb, leb}
 use lib.ListN.{length, take, drop}
@@ -14,8 +14,8 @@ use Rattle.isa.specs.declared.Decoded.the-variants as decoded
 use Rattle.isa.specs.declared.Instruction.{Instruction}
 use Rattle.model.specs.Cpu.{cpuSize}
 use Rattle.model.specs.Forms.{Form, formOf, handleAddress}
-use Rattle.model.specs.Calls.{StepCall, Call, step}
-use Rattle.model.specs.Refusals.{View, Test, first, of, ofDecoded, ofInstruction, ofHandle, memoryLimit, randomLength, instructionFault, outside, tests, asked, operands, stepRefusal, refusal}
+use Rattle.model.specs.Calls.{StepCall, Call, step, taken}
+use Rattle.model.specs.Refusals.{View, Test, Asked, first, of, ofDecoded, ofInstruction, ofHandle, memoryLimit, randomLength, instructionFault, outside, tests, asked, operands, stepRefusal, refusal}
 
 -- none of the tests holds
 abbrev pub Clear : List Test → Type 0
@@ -67,6 +67,11 @@ pub step-asked : (v : View) (s : StepCall) → stepRefusal v (asked s) ≡ refus
 unfolding refusal
 step-asked v s = refl
 
+-- `taken` has no operand but the machine
+pub taken-refusal : (v : View) → refusal v taken ≡ 0
+unfolding refusal tests
+taken-refusal v = refl
+
 -- ---- what a call that is not refused tells
 
 pub processor-below : (v : View) (c : Call) (p : ℕ) → refusal v c ≡ 0 → operands c .processor ≡ some p → p < v .count
@@ -77,6 +82,13 @@ processor-below v c p e q =
 pub code-known : (v : View) (c : Call) → refusal v c ≡ 0 → operands c .unknownCode ≡ false
 unfolding tests
 code-known v c e = passes v c e .0
+
+-- refusal 12 of a register call
+pub no-register-fault : (v : View) (c : Call) → refusal v c ≡ 0 → operands c .step ≡ none → operands c .registerFault (v .features) ≡ false
+unfolding tests
+no-register-fault v c e q =
+    sym (ap (λ (o : Option Asked). of (λ a. ofDecoded (λ i lock bytes. instructionFault (v .features) (a .cpu) i bytes) (a .decoded)) o || operands c .registerFault (v .features)) q)
+    ∙ passes v c e .1 .1 .1 .1 .1 .1 .1 .1 .1 .1 .0
 
 module _ (v : View) (s : StepCall) (accepted : refusal v (step s) ≡ 0) where
   pub cpu-length : length (s .cpu) ≡ cpuSize

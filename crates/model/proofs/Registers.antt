@@ -1,33 +1,33 @@
--- The status registers along every list of calls: copy status and valid of the machine are those that the names tell, and reads give them.
+-- The status registers along every list of calls: copy status, valid and consumed of the machine are those that the names tell, and reads give them.
 -- Assumes nothing.
 use mathlib.Core.Path.{_≡_, _∙_, refl, sym, ap, subst}
-use mathlib.Core.Bool.{Bool, true, false, cond, not, _&&_, and-true, and-false}
+use mathlib.Core.Bool.{Bool, true, false, cond, not, _&&_, _||_, and-true, and-false, or-true}
 use mathlib.Core.List.{List, [], _∷_, _++_}
 use mathlib.Core.Option.{Option, none, some, Option·map}
 use Prim.Native.Nat.{ℕ, suc, _+_, _*_, _^_, _/_, _%_, _<_}
 use native.Mathlib.Omega.{arith}
-use lib.Dec.{eqb}
+use lib.Dec.{T, eqb}
 use lib.ListN.{length, getD, set, getD-replicate}
 use lib.Seq.{getD-set-same, getD-set-other}
 use borrow.Author.Tests.{eq-eqb, ne-eqb, eqb-true, eqb-false}
-use Rattle.bits.proofs.Choice.{cond-on, cond-off, cond-of, on-cond}
+use Rattle.bits.proofs.Choice.{cond-on, cond-off, cond-of, T-true, true-T, on-cond}
 use Rattle.model.specs.Numbers.{bit}
 use Rattle.model.specs.Records.{processorLimit, zeroProcessor, noProcessor, processorAt, absent, holding, withKey, withCopyStatus, withBackup, withStore, withPending, withValid, withError, withConsumed}
-use Rattle.model.specs.Calls.{PowerOn, ReadCall, WriteCall, Call, step, read, write, settle, sleep, reset, Answer, Outcome}
+use Rattle.model.specs.Calls.{PowerOn, ReadCall, WriteCall, Call, step, read, write, settle, sleep, reset, taken, Answer, Outcome}
 use Rattle.model.specs.Refusals.{refusal}
-use Rattle.model.specs.Backup.{Copied, copyOut, copyIn, written, registerRead, settled, storeKept, woken}
+use Rattle.model.specs.Backup.{Copied, copyOut, copyIn, written, registerRead, settled, withTaken, storeKept, woken}
 use Rattle.model.specs.Execution.{fresh, perform, call, run, powerOn}
 use Rattle.model.specs.History.{History, atFirst, viewGiven, keyOf, nameAt, renamed, loads, copiesOut, sent, copiedOut, gets, settledNames, nameKept, moved, next, historyFrom, history}
 use Rattle.model.specs.Demand3.{slotKey, answerAt}
-use Rattle.model.specs.Status.{isName, accepted, copies, statusMoved, statusFrom, copyStatus, backedUp, StatusRegisters}
+use Rattle.model.specs.Status.{isName, accepted, copies, toldFrom, statusMoved, statusFrom, copyStatus, backedUp, consumedMoved, consumed, StatusRegisters}
 use Rattle.model.specs.declared.IwKey.{IwKey}
 use Rattle.model.specs.declared.Processor.{Processor}
 use Rattle.model.specs.declared.Slot.{Slot}
 use Rattle.model.specs.declared.Platform.{Platform}
 use Rattle.model.specs.declared.Machine.{Machine}
-use Rattle.model.proofs.Frames.{call-performed, step-status}
+use Rattle.model.proofs.Frames.{call-performed, by-number, step-status}
 use Rattle.model.proofs.Refusals.{processor-below}
-use Rattle.model.proofs.Validities.{count-few, power-on-valid}
+use Rattle.model.proofs.Validities.{status-flags, count-few, power-on-valid}
 use Rattle.model.proofs.Histories.{Holds, slot-none, slot-some, same-count, fails-told, more-past, performed-moved, number-told, by-refusal, holds-next}
 use Rattle.model.proofs.Demand3.{answer-at, holds, not-refused, was-performed, power-on-holds}
 use Rattle.model.proofs.Status.{status-in, Backups, next-backups, backups}
@@ -51,6 +51,9 @@ statusOf x = x .processor .«copy_status»
 
 abbrev validOf : Copied → ℕ
 validOf x = x .platform .valid
+
+abbrev consumedOf : Copied → ℕ
+consumedOf x = x .platform .consumed
 
 -- ---- one call
 
@@ -124,6 +127,20 @@ module _ (p : PowerOn) (past : List Call) (m : Machine) (h : History) (inv : Hol
             ∙ ap (λ (t : Bool). cond t 1 0) (got (h .backup))
         go false o = v
 
+    copied-consumed : (address value : ℕ)
+        → consumedOf (written address value entry platform)
+        ≡ cond (bit 0 value && (eqb address 0xD91 && copiesOut past q h)) 0 (platform .consumed)
+    copied-consumed address value = go (bit 0 value) (eqb address 0xD91)
+      where
+        go : (t o : Bool)
+            → consumedOf (cond t (cond o (copyOut entry platform) (copyIn entry platform)) (record { processor = entry; platform = platform }))
+            ≡ cond (t && (o && copiesOut past q h)) 0 (platform .consumed)
+        go true true = ap consumedOf copy-out ∙ cond-of consumedOf (copiesOut past q h) isOut failed _ _ refl refl
+        go true false =
+            ap consumedOf copy-in ∙ cond-of consumedOf (isName (h .backup)) isIn failed _ _ refl refl
+            ∙ cond-same (isName (h .backup)) (platform .consumed)
+        go false o = refl
+
   -- copy status after a write: of its processor, and of another
   module _ (w : WriteCall) (b : w .processor < p .count) where
     abbrev own : Processor
@@ -161,6 +178,13 @@ module _ (p : PowerOn) (past : List Call) (m : Machine) (h : History) (inv : Hol
         go true e = subst Left (eqb-true (w .processor) q e) written-own
         go false e = written-other q e
 
+  -- a platform that is made while a backup is pending, with consumed 1
+  while-pending : (f : Platform) → f .consumed ≡ 1
+      → cond (eqb (platform .pending) 1) f platform .consumed ≡ cond (eqb (h .pending) 1) 1 (platform .consumed)
+  while-pending f e =
+      cond-of (λ (g : Platform). g .consumed) (eqb (platform .pending) 1) f platform 1 (platform .consumed) e refl
+      ∙ ap (λ (n : ℕ). cond (eqb n 1) 1 (platform .consumed)) (λ j. inv .keys j .pending)
+
   settled-valid : (code : ℕ) → Backups h → platform .valid ≡ cond (backedUp h) 1 0
       → settled code platform .valid ≡ cond (backedUp (settledNames code h)) 1 0
   unfolding settled settledNames
@@ -191,10 +215,11 @@ module _ (p : PowerOn) (past : List Call) (m : Machine) (h : History) (inv : Hol
   performed-status q b (settle s) a = refl
   performed-status q b (sleep s) a = ap (λ (e : Processor). e .«copy_status») (getD-replicate processorLimit q zeroProcessor noProcessor (few q b))
   performed-status q b reset a = ap (λ (e : Processor). e .«copy_status») (getD-replicate processorLimit q zeroProcessor noProcessor (few q b))
+  performed-status q b taken a = refl
 
   performed-valid : Backups h → platform .valid ≡ cond (backedUp h) 1 0 → (c : Call) → refusal (viewGiven p) c ≡ 0
       → perform m c .machine .platform .valid ≡ cond (backedUp (moved p past c h)) 1 0
-  unfolding perform moved woken
+  unfolding perform moved withTaken woken
   performed-valid t v (step s) a =
       on-cond (λ g. platform .valid ≡ cond (backedUp g) 1 0) (loads s) (renamed (s .processor) (suc (length past)) h) h (λ e. v) (λ e. v)
   performed-valid t v (read r) a = v
@@ -206,6 +231,19 @@ module _ (p : PowerOn) (past : List Call) (m : Machine) (h : History) (inv : Hol
       (named-slot (past ++ (sleep s ∷ [])) (storeKept (s .code) platform) (nameKept (s .code) h)
       (λ j. performed-moved p past (sleep s) m h inv a .keys j .store))
   performed-valid t v reset a = refl
+  performed-valid t v taken a =
+      on-cond (λ (f : Platform). f .valid ≡ cond (backedUp h) 1 0) (eqb (platform .pending) 1) (withConsumed 1 platform) platform (λ e. v) (λ e. v)
+
+  performed-consumed : (c : Call) → refusal (viewGiven p) c ≡ 0 → perform m c .machine .platform .consumed ≡ consumedMoved past h c (platform .consumed)
+  unfolding perform settled withTaken woken
+  performed-consumed (step s) a = refl
+  performed-consumed (read r) a = refl
+  performed-consumed (write w) a =
+      copied-consumed (w .processor) (processor-below (viewGiven p) (write w) (w .processor) a refl) (w .address) (w .value)
+  performed-consumed (settle s) a = while-pending _ refl
+  performed-consumed (sleep s) a = refl
+  performed-consumed reset a = refl
+  performed-consumed taken a = while-pending _ refl
 
 -- ---- every list
 
@@ -225,6 +263,57 @@ valid-run p past [] m h inv t v = v
 valid-run p past (c ∷ calls) m h inv t v =
     valid-run p (past ++ (c ∷ [])) calls (call m c .machine) (next p past c h) (holds-next p past c m h inv) (next-backups p past h t c)
     (by-refusal p past c m h inv (λ n t. n .platform .valid ≡ cond (backedUp (cond t (moved p past c h) h)) 1 0) (performed-valid p past m h inv t v c) v)
+
+consumed-run : (p : PowerOn) (past calls : List Call) (m : Machine) (h : History) → Holds p past m h
+    → run m calls .machine .platform .consumed ≡ toldFrom consumedMoved p past h (m .platform .consumed) calls
+consumed-run p past [] m h inv = refl
+consumed-run p past (c ∷ calls) m h inv =
+    let old = m .platform .consumed in
+    consumed-run p (past ++ (c ∷ [])) calls (call m c .machine) (next p past c h) (holds-next p past c m h inv)
+    ∙ ap (λ (n : ℕ). toldFrom consumedMoved p (past ++ (c ∷ [])) (next p past c h) n calls)
+    (by-refusal p past c m h inv (λ n t. n .platform .consumed ≡ cond t (consumedMoved past h c old) old) (performed-consumed p past m h inv c) refl)
+
+-- consumed is 1 only beside valid, error or pending
+abbrev explained : Platform → Bool
+explained f = not (eqb (f .consumed) 1) || eqb (f .valid) 1 || eqb (f .error) 1 || eqb (f .pending) 1
+
+explained-pending : (f : Platform) → eqb (f .pending) 1 ≡ true → T (explained f)
+explained-pending f e =
+    let others = not (eqb (f .consumed) 1) || eqb (f .valid) 1 || eqb (f .error) 1 in
+    true-T (explained f) (ap (λ (b : Bool). others || b) e ∙ or-true others)
+
+written-explained : (address value : ℕ) (e : Processor) (f : Platform) → T (explained f) → T (explained (written address value e f .platform))
+unfolding copyOut copyIn
+written-explained address value e f t = on-cond P (bit 0 value) _ _ (λ q. on-cond P (eqb address 0xD91) _ _ (λ q. out) (λ q. in′)) (λ q. t)
+  where
+    P : Copied → Type 0
+    P x = T (explained (x .platform))
+
+    out : T (explained (copyOut e f .platform))
+    out = on-cond P (eqb (e .key .«no_backup») 1 || eqb (f .pending) 1) _ _ (λ q. t) (λ q. tt)
+
+    in′ : T (explained (copyIn e f .platform))
+    in′ = on-cond P (eqb (f .backup .present) 1) _ _ (λ q. t) (λ q. t)
+
+performed-explained : (m : Machine) (c : Call) → T (explained (m .platform)) → T (explained (perform m c .machine .platform))
+unfolding perform settled withTaken woken
+performed-explained m (step s) t = t
+performed-explained m (read r) t = t
+performed-explained m (write w) t = written-explained (w .address) (w .value) (processorAt m (w .processor)) (m .platform) t
+performed-explained m (settle s) t =
+    on-cond (λ f. T (explained f)) (eqb (m .platform .pending) 1) _ _
+    (λ e. on-cond (λ f. T (explained (withPending 0 (withConsumed 1 f)))) (eqb (s .code) 0) _ _ (λ e. tt) (λ e. tt))
+    (λ e. t)
+performed-explained m (sleep s) t = tt
+performed-explained m reset t = tt
+performed-explained m taken t =
+    let f = m .platform in
+    on-cond (λ g. T (explained g)) (eqb (f .pending) 1) (withConsumed 1 f) f (λ e. explained-pending (withConsumed 1 f) e) (λ e. t)
+
+run-explained : (m : Machine) (calls : List Call) → T (explained (m .platform)) → T (explained (run m calls .machine .platform))
+run-explained m [] t = t
+run-explained m (c ∷ l) t =
+    run-explained (call m c .machine) l (by-number m c (λ o. T (explained (o .machine .platform))) (λ e. performed-explained m c t) (λ e. t))
 
 module _ (p : PowerOn) (ok : powerOn p .answer .number ≡ 0) where
   abbrev on : Machine
@@ -247,6 +336,12 @@ module _ (p : PowerOn) (ok : powerOn p .answer .number ≡ 0) where
   -- valid
   pub valid-kept : (calls : List Call) → run on calls .machine .platform .valid ≡ cond (backedUp (history p calls)) 1 0
   valid-kept calls = valid-run p [] calls on (atFirst p) begun (backups p []) (ap (λ (m : Machine). m .platform .valid) zeros)
+
+  -- consumed
+  pub consumed-kept : (calls : List Call) → run on calls .machine .platform .consumed ≡ consumed p calls
+  consumed-kept calls =
+      consumed-run p [] calls on (atFirst p) begun
+      ∙ ap (λ (n : ℕ). toldFrom consumedMoved p [] (atFirst p) n calls) (ap (λ (m : Machine). m .platform .consumed) zeros)
 
   -- a copy in that leaves copy status 1 leaves the processor the backup's name
   pub copied-in : (xs : List Call) (w : WriteCall) → accepted p (write w) ≡ true → bit 0 (w .value) ≡ true → w .address ≡ 0xD92
@@ -279,18 +374,43 @@ module _ (p : PowerOn) (ok : powerOn p .answer .number ≡ 0) where
         ∙ ap (λ (n : ℕ). registerRead n (processorAt reached (c .processor)) (reached .platform)) e
         ∙ status-kept xs (c .processor) (processor-below (viewGiven p) (read c) (c .processor) (not-refused p on begun xs (read c) read-zero) refl)
 
-    read-valid : c .address ≡ 0x991 → bit 0 (answerAt (run on (xs ++ read c ∷ ys)) (length xs) .value) ≡ backedUp (history p xs)
-    read-valid e =
-        let f = reached .platform in
-        ap (bit 0)
-        (read-value
-        ∙ ap (λ (n : ℕ). registerRead n (processorAt reached (c .processor)) f) e
-        ∙ ap (λ (n : ℕ). n + 4 * f .error + 8 * f .consumed) (valid-kept xs))
-        ∙ bit-0 (backedUp (history p xs)) (f .error) (f .consumed)
-      where
-        bit-0 : (t : Bool) (error consumed : ℕ) → bit 0 (cond t 1 0 + 4 * error + 8 * consumed) ≡ t
-        bit-0 true error consumed = eq-eqb ((1 + 4 * error + 8 * consumed) / 2 ^ 0 % 2) 1 (omega arith)
-        bit-0 false error consumed = ne-eqb ((0 + 4 * error + 8 * consumed) / 2 ^ 0 % 2) 1 (λ e. omega arith)
+    -- IA32_IWKEYBACKUP_STATUS
+    module _ (e : c .address ≡ 0x991) where
+      abbrev f : Platform
+      f = reached .platform
+
+      abbrev flags : (f .valid < 2) × (f .error < 2) × (f .consumed < 2)
+      flags = status-flags reached (holds p on begun xs .isValid)
+
+      status-value : answerAt (run on (xs ++ read c ∷ ys)) (length xs) .value ≡ f .valid + 4 * f .error + 8 * f .consumed
+      status-value = read-value ∙ ap (λ (n : ℕ). registerRead n (processorAt reached (c .processor)) f) e
+
+      read-valid : bit 0 (answerAt (run on (xs ++ read c ∷ ys)) (length xs) .value) ≡ backedUp (history p xs)
+      read-valid =
+          ap (bit 0) (status-value ∙ ap (λ (n : ℕ). n + 4 * f .error + 8 * f .consumed) (valid-kept xs))
+          ∙ bit-0 (backedUp (history p xs)) (f .error) (f .consumed)
+        where
+          bit-0 : (t : Bool) (error consumed : ℕ) → bit 0 (cond t 1 0 + 4 * error + 8 * consumed) ≡ t
+          bit-0 true error consumed = eq-eqb ((1 + 4 * error + 8 * consumed) / 2 ^ 0 % 2) 1 (omega arith)
+          bit-0 false error consumed = ne-eqb ((0 + 4 * error + 8 * consumed) / 2 ^ 0 % 2) 1 (λ e. omega arith)
+
+      read-consumed : bit 3 (answerAt (run on (xs ++ read c ∷ ys)) (length xs) .value) ≡ eqb (consumed p xs) 1
+      read-consumed =
+          ap (bit 3) status-value ∙ ap (λ (n : ℕ). eqb n 1) (bit-3 (f .valid) (f .error) (f .consumed) (flags .0) (flags .1) (flags .2) ∙ consumed-kept xs)
+        where
+          bit-3 : (v e n : ℕ) → v < 2 → e < 2 → n < 2 → (v + 4 * e + 8 * n) / 2 ^ 3 % 2 ≡ n
+          bit-3 v e n a b d = omega arith
+
+      read-alone : answerAt (run on (xs ++ read c ∷ ys)) (length xs) .value ≡ 8 → history p xs .pending ≡ 1
+      read-alone z =
+          let told = run-explained on xs (subst (λ (m : Machine). T (explained (m .platform))) (sym zeros) tt) in
+          let is = alone (f .valid) (f .error) (f .consumed) (flags .0) (flags .1) (sym status-value ∙ z) in
+          sym (λ j. holds p on begun xs .keys j .pending)
+          ∙ eqb-true (f .pending) 1
+          (T-true (eqb (f .pending) 1) (subst T (λ j. not (eqb (is .2 j) 1) || eqb (is .0 j) 1 || eqb (is .1 j) 1 || eqb (f .pending) 1) told))
+        where
+          alone : (v e n : ℕ) → v < 2 → e < 2 → v + 4 * e + 8 * n ≡ 8 → (v ≡ 0) × (e ≡ 0) × (n ≡ 1)
+          alone v e n a b z = (omega arith, omega arith, omega arith)
 
   pub status-registers : (calls : List Call) → StatusRegisters p calls (run on calls)
   status-registers calls =
@@ -307,4 +427,16 @@ module _ (p : PowerOn) (ok : powerOn p .answer .number ≡ 0) where
             (λ (l : List Call).
             answerAt (run on l) (length xs) .number ≡ 0 → c .address ≡ 0x991 → bit 0 (answerAt (run on l) (length xs) .value) ≡ backedUp (history p xs))
             (sym split) (read-valid xs c ys);
+        consumedRead =
+            λ xs c ys split.
+            subst
+            (λ (l : List Call).
+            answerAt (run on l) (length xs) .number ≡ 0 → c .address ≡ 0x991 → bit 3 (answerAt (run on l) (length xs) .value) ≡ eqb (consumed p xs) 1)
+            (sym split) (read-consumed xs c ys);
+        consumedAlone =
+            λ xs c ys split.
+            subst
+            (λ (l : List Call).
+            answerAt (run on l) (length xs) .number ≡ 0 → c .address ≡ 0x991 → answerAt (run on l) (length xs) .value ≡ 8 → history p xs .pending ≡ 1)
+            (sym split) (read-alone xs c ys);
       }

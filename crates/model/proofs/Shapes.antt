@@ -23,11 +23,11 @@ use Rattle.model.specs.Numbers.{bit, part}
 use Rattle.model.specs.Records.{processorLimit, zeroKey, zeroProcessor, noProcessor, processorAt, withKey, withPending, withConsumed, withProcessor, withPlatform}
 use Rattle.model.specs.Cpu.{cpuSize, xmmAt, xmm}
 use Rattle.model.specs.Forms.{registerOf, keySource, notReady}
-use Rattle.model.specs.Calls.{StepCall, Call, step, read, write, settle, sleep, reset}
+use Rattle.model.specs.Calls.{StepCall, Call, step, read, write, settle, sleep, reset, taken}
 use Rattle.model.specs.Validity.{valid}
 use Rattle.model.specs.Refusals.{randomLength, operands, refusal}
 use Rattle.model.specs.Instructions.{Executed, plainKey, mixedWith, loadedKey, load, execute, stepped, executed}
-use Rattle.model.specs.Backup.{Copied, copyOut, copyIn, written, settled, storeKept, woken}
+use Rattle.model.specs.Backup.{Copied, copyOut, copyIn, written, settled, withTaken, storeKept, woken}
 use Rattle.model.specs.Execution.{fresh, zeroPlatform, viewOf, perform, call}
 use Rattle.model.specs.Layout.{ShapedKey, ShapedEntries, ShapedPlatform, Shaped}
 use Rattle.model.specs.declared.IwKey.{IwKey}
@@ -166,6 +166,11 @@ settled-shaped code f h =
     (λ t. record { backup = h .backup; store = zero-shaped }))
     (λ t. h)
 
+taken-shaped : (f : Platform) → ShapedPlatform f → ShapedPlatform (withTaken f)
+unfolding withTaken
+taken-shaped f h =
+    on-cond ShapedPlatform (eqb (f .pending) 1) _ _ (λ t. record { backup = h .backup; store = h .store }) (λ t. h)
+
 kept-shaped : (code : ℕ) (f : Platform) → ShapedPlatform f → ShapedKey (storeKept code f .key)
 kept-shaped code f h =
     let P : Slot → Type 0 = λ s. ShapedKey (s .key) in
@@ -209,6 +214,8 @@ perform-shaped m (settle s) v t h =
 perform-shaped m (sleep s) v t h =
     zeros-shaped (m .count) (m .features) (woken (s .code) (m .platform)) (woken-shaped (s .code) (m .platform) (h .platform))
 perform-shaped m reset v t h = fresh-shaped (m .count) (m .features)
+perform-shaped m taken v t h =
+    record { count = h .count; processors = h .processors; platform = taken-shaped (m .platform) (h .platform) }
 
 pub call-shaped : (m : Machine) (c : Call) → Shaped m → Shaped (call m c .machine)
 call-shaped m c h =

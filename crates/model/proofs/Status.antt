@@ -13,10 +13,10 @@ use borrow.Author.Tests.{eq-eqb, ne-eqb, eqb-true, not-true}
 use Rattle.bits.proofs.Choice.{cond-on, cond-off, and-left, and-right, T-true, true-T, on-cond}
 use Rattle.isa.specs.Decode.{decodeAt, modrmOf, instructionOf}
 use Rattle.model.specs.Numbers.{bit}
-use Rattle.model.specs.Calls.{PowerOn, WriteCall, SleepCall, Call, step, read, write, settle, sleep, reset}
+use Rattle.model.specs.Calls.{PowerOn, WriteCall, SleepCall, Call, step, read, write, settle, sleep, reset, taken}
 use Rattle.model.specs.Refusals.{tests, refusal}
 use Rattle.model.specs.History.{History, atFirst, nameAt, renamed, loads, copiesOut, sent, copiedOut, gets, settledNames, nameKept, moved, next, historyFrom, history}
-use Rattle.model.specs.Status.{isName, accepted, copies, statusMoved, statusNext, statusFrom, copyStatus, noCopyOn, statusLeft, backedUp}
+use Rattle.model.specs.Status.{isName, accepted, copies, statusMoved, statusFrom, copyStatus, noCopyOn, statusLeft, backedUp}
 use Rattle.model.proofs.Corollaries.{along, history-append}
 use Rattle.model.proofs.Computed.{two, sleeping, pending, outOnly}
 
@@ -26,7 +26,7 @@ status-append : (p : PowerOn) (past xs ys : List Call) (h : History) (q old : �
     → statusFrom p past h q old (xs ++ ys) ≡ statusFrom p (past ++ xs) (historyFrom p past h xs) q (statusFrom p past h q old xs) ys
 status-append p past [] ys h q old = ap (λ (l : List Call). statusFrom p l h q old ys) (sym (append-nil past))
 status-append p past (c ∷ xs) ys h q old =
-    status-append p (past ++ (c ∷ [])) xs ys (next p past c h) q (statusNext p past h q c old)
+    status-append p (past ++ (c ∷ [])) xs ys (next p past c h) q (cond (accepted p c) (statusMoved past h q c old) old)
     ∙ ap (λ (l : List Call). statusFrom p l (historyFrom p past h (c ∷ xs)) q (statusFrom p past h q old (c ∷ xs)) ys) (append-snoc past c xs)
 
 module _ (p : PowerOn) (xs : List Call) (c : Call) (a : accepted p c ≡ true) where
@@ -85,7 +85,7 @@ reset-clears p xs q = status-last p xs reset refl q
 
 -- any other call leaves it
 left-alone : (p : PowerOn) (past : List Call) (h : History) (q old : ℕ) (c : Call) → T (not (accepted p c) || noCopyOn q c)
-    → statusNext p past h q c old ≡ old
+    → cond (accepted p c) (statusMoved past h q c old) old ≡ old
 left-alone p past h q old c t = go (accepted p c) t
   where
     kept : (c : Call) → T (noCopyOn q c) → statusMoved past h q c old ≡ old
@@ -97,6 +97,7 @@ left-alone p past h q old c t = go (accepted p c) t
     kept (settle s) t = refl
     kept (sleep s) t = absurd t
     kept reset t = absurd t
+    kept taken t = refl
 
     go : (b : Bool) → T (not b || noCopyOn q c) → cond b (statusMoved past h q c old) old ≡ old
     go true t = kept c t
@@ -106,7 +107,7 @@ status-left : (p : PowerOn) (past : List Call) (h : History) (q old : ℕ) (ys :
 status-left p past h q old [] t = refl
 status-left p past h q old (c ∷ ys) t =
     let b = not (accepted p c) || noCopyOn q c in
-    status-left p (past ++ (c ∷ [])) (next p past c h) q (statusNext p past h q c old) ys (and-right b (statusLeft p q ys) t)
+    status-left p (past ++ (c ∷ [])) (next p past c h) q (cond (accepted p c) (statusMoved past h q c old) old) ys (and-right b (statusLeft p q ys) t)
     ∙ left-alone p past h q old c (and-left b (statusLeft p q ys) t)
 
 -- so it is that of the last copy on q, or 0 since the last sleep or reset
@@ -165,6 +166,7 @@ module _ (p : PowerOn) (past : List Call) (h : History) (t : Backups h) where
   moved-backups (settle s) = settled-backups (s .code)
   moved-backups (sleep s) = record { pends = λ f. absurd (false≢true f); rests = λ f. refl }
   moved-backups reset = record { pends = λ f. absurd (false≢true f); rests = λ f. refl }
+  moved-backups taken = t
 
   pub next-backups : (c : Call) → Backups (next p past c h)
   next-backups c = on-cond Backups (accepted p c) (moved p past c h) h (λ e. moved-backups c) (λ e. t)

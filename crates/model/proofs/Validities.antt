@@ -20,10 +20,10 @@ use Rattle.model.specs.Forms.{noBackup, keySource, notReady}
 use Rattle.model.specs.Instructions.{plainKey, mixedWith, loadedKey, executed}
 use Rattle.model.specs.History.{loadIn, makes, keyMade}
 use Rattle.model.specs.Records.{processorLimit, withProcessor, withProcessors, withPlatform, noBackupSupported, randomSource, zeroProcessor, noProcessor, processorAt, absent, holding, withKey, withCopyStatus, withBackup, withStore, withPending, withValid, withError, withConsumed}
-use Rattle.model.specs.Calls.{PowerOn, StepCall, Call, step, read, write, settle, sleep, reset, Outcome}
+use Rattle.model.specs.Calls.{PowerOn, StepCall, Call, step, read, write, settle, sleep, reset, taken, Outcome}
 use Rattle.model.specs.Validity.{flag, validCount, validFeatures, validKey, isZeroKey, validProcessor, validProcessors, validSlot, validPlatform, valid}
 use Rattle.model.specs.Refusals.{View, loadFault, refusal}
-use Rattle.model.specs.Backup.{Copied, copyOut, copyIn, written, settled, storeKept, woken}
+use Rattle.model.specs.Backup.{Copied, copyOut, copyIn, written, settled, withTaken, storeKept, woken}
 use Rattle.model.specs.Execution.{fresh, done, viewOf, perform, numberOf, call, powerOn}
 use Rattle.model.specs.declared.IwKey.{IwKey}
 use Rattle.model.specs.declared.Processor.{Processor}
@@ -135,6 +135,16 @@ settled-valid code f t = go (eqb (f .pending) 1) (eqb code 0)
         platform-of (withPending 0 (withConsumed 1 (withStore absent (withValid 0 (withError 1 f)))))
         (record { backup = p .backup; store = tt; pending = tt; valid = tt; error = tt; consumed = tt })
     go false b = t
+
+taken-valid : (f : Platform) → T (validPlatform f) → T (validPlatform (withTaken f))
+unfolding withTaken
+taken-valid f t =
+    let p = platform-parts f t in
+    on-cond (λ g. T (validPlatform g)) (eqb (f .pending) 1) (withConsumed 1 f) f
+    (λ e.
+    platform-of (withConsumed 1 f)
+    (record { backup = p .backup; store = p .store; pending = p .pending; valid = p .valid; error = p .error; consumed = tt }))
+    (λ e. t)
 
 one-or-zero : (b : Bool) → T (flag (cond b 1 0))
 one-or-zero true = tt
@@ -265,6 +275,12 @@ machine-parts m t =
 pub pending-flag : (m : Machine) → T (valid m) → m .platform .pending < 2
 pending-flag m t = ltb→lt (m .platform .pending) 2 (platform-parts (m .platform) (machine-parts m t .platform) .pending)
 
+pub status-flags : (m : Machine) → T (valid m) → (m .platform .valid < 2) × (m .platform .error < 2) × (m .platform .consumed < 2)
+status-flags m t =
+    let f = m .platform in
+    let p = platform-parts f (machine-parts m t .platform) in
+    (ltb→lt (f .valid) 2 (p .valid), ltb→lt (f .error) 2 (p .error), ltb→lt (f .consumed) 2 (p .consumed))
+
 pub count-few : (m : Machine) → T (valid m) → m .count ≤ processorLimit
 count-few m t = leb→le (m .count) processorLimit (and-right (leb 1 (m .count)) (leb (m .count) processorLimit) (machine-parts m t .count))
 
@@ -347,6 +363,10 @@ perform-valid m (sleep s) a t =
       platform = woken-valid (s .code) (m .platform) (p .platform);
     })
 perform-valid m reset a t = let p = machine-parts m t in fresh-valid (m .count) (m .features) (p .count) (p .features)
+perform-valid m taken a t =
+    let p = machine-parts m t in
+    machine-of (withPlatform (withTaken (m .platform)) m)
+    (record { count = p .count; features = p .features; processors = p .processors; platform = taken-valid (m .platform) (p .platform) })
 
 -- a valid machine's number is the refusal of its view
 pub valid-number : (m : Machine) (c : Call) → T (valid m) → numberOf m c ≡ refusal (viewOf m) c
@@ -368,3 +388,4 @@ call-view m c = by-number m c (λ o. viewOf (o .machine) ≡ viewOf m) (λ e. ke
     kept (settle s) = refl
     kept (sleep s) = refl
     kept reset = refl
+    kept taken = refl

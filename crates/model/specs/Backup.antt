@@ -53,6 +53,10 @@ settled code f =
     (withStore absent (withValid 0 (withError 1 f))))))
     f
 
+-- change request (v): "A call "taken" sets consumed when pending is 1 and otherwise does nothing." In 001, chapter 4: "been consumed by the platform".
+unfoldable pub withTaken : Platform → Platform
+withTaken f = cond (eqb (f .pending) 1) (withConsumed 1 f) f
+
 -- "If pending, the store becomes what it was, the backup, or junk; if not, only code 2 alters it." Junk is an absent store.
 abbrev pub storeKept : ℕ → Platform → Slot
 storeKept code f = cond (eqb code 2) absent (cond (eqb code 1 && eqb (f .pending) 1) (f .backup) (f .store))

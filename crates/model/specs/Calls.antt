@@ -45,25 +45,27 @@ pub data Call : Type 0 where
   settle : SettleCall → Call
   sleep : SleepCall → Call
   reset : Call
+  -- change request (v): the platform has taken the backup, and its storage is still at work
+  taken : Call
 
 -- ---- what a call has, or lacks
 
+-- f of a step, and d of every other call
+abbrev pub onStep : {A : Type 0} → (StepCall → A) → A → Call → A
+onStep f d (step s) = f s
+onStep f d (read r) = d
+onStep f d (write w) = d
+onStep f d (settle s) = d
+onStep f d (sleep s) = d
+onStep f d reset = d
+onStep f d taken = d
+
 abbrev pub stepOf : Call → Option StepCall
-stepOf (step s) = some s
-stepOf (read r) = none
-stepOf (write w) = none
-stepOf (settle s) = none
-stepOf (sleep s) = none
-stepOf reset = none
+stepOf = onStep some none
 
 -- the CPU record as lent, empty where the call has none
 abbrev pub lentCpu : Call → List ℕ
-lentCpu (step s) = s .cpu
-lentCpu (read r) = []
-lentCpu (write w) = []
-lentCpu (settle s) = []
-lentCpu (sleep s) = []
-lentCpu reset = []
+lentCpu = onStep (λ s. s .cpu) []
 
 -- ---- what a call gives
 

@@ -20,7 +20,7 @@ use Rattle.isa.specs.declared.Instruction.the-variants as instruction
 use Rattle.model.specs.Numbers.{bit}
 use Rattle.model.specs.Cpu.{xmm, register, cpl, zf}
 use Rattle.model.specs.Forms.{Form, formOf, registerOf, handleRead}
-use Rattle.model.specs.Calls.{PowerOn, StepCall, Call, step, read, write, settle, sleep, reset, Answer}
+use Rattle.model.specs.Calls.{PowerOn, StepCall, Call, onStep, Answer}
 use Rattle.model.specs.Instructions.{aes}
 use Rattle.model.specs.Execution.{Run}
 use Rattle.model.specs.History.{History, keyOf, nameAt, callAt, loads, history, refusals}
@@ -65,12 +65,7 @@ named calls h =
 
 -- a name is 0, or the number of a call that is a LOADIWKEY, that no refusal stops and that was not "not ready"
 abbrev pub loadsKey : Call → Bool
-loadsKey (step s) = loads s
-loadsKey (read r) = false
-loadsKey (write w) = false
-loadsKey (settle s) = false
-loadsKey (sleep s) = false
-loadsKey reset = false
+loadsKey = onStep loads false
 
 abbrev pub given : PowerOn → List Call → ℕ → Bool
 given p calls zero = true
@@ -132,20 +127,10 @@ useIn s decoded.EndOfString = none
 
 -- of a call
 abbrev pub encodeOf : Call → Option Encode
-encodeOf (step s) = encodeIn s (decode (s .string))
-encodeOf (read r) = none
-encodeOf (write w) = none
-encodeOf (settle s) = none
-encodeOf (sleep s) = none
-encodeOf reset = none
+encodeOf = onStep (λ s. encodeIn s (decode (s .string))) none
 
 abbrev pub useOf : Call → Option UseMade
-useOf (step s) = useIn s (decode (s .string))
-useOf (read r) = none
-useOf (write w) = none
-useOf (settle s) = none
-useOf (sleep s) = none
-useOf reset = none
+useOf = onStep (λ s. useIn s (decode (s .string))) none
 
 -- "the bytes that it reads agree with those the encode gave, as far as the shorter goes"
 abbrev pub Agree : List ℕ → List ℕ → Type 0

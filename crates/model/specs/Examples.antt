@@ -1,5 +1,5 @@
 -- The scope, "Twelve settled examples": K1 to K12 as one list, with more behind them that no other theorem stands for, and what it is for an example to hold;
--- a second list for change request (ii).
+-- two more lists, for change requests (ii) and (v).
 -- Assumes nothing.
 use mathlib.Core.Path.{_≡_}
 use mathlib.Core.List.{List, [], _∷_, _++_}
@@ -18,7 +18,7 @@ use Rattle.model.specs.Records.{processorAt}
 use Rattle.model.specs.Cpu as Cpu
 use Rattle.model.specs.Cpu.{cpuSize, rflagsAt, cplAt, controlAt, xmm, register, rflags, withXmm, withRegister, withRip}
 use Rattle.model.specs.Forms.{Form, formOf, handleAddress}
-use Rattle.model.specs.Calls.{PowerOn, StepCall, Call, step, read, write, settle, sleep, stepOf, Outcome}
+use Rattle.model.specs.Calls.{PowerOn, StepCall, Call, step, read, write, settle, sleep, taken, stepOf, Outcome}
 use Rattle.model.specs.Execution.{powerOn, call, run}
 use Rattle.model.specs.declared.IwKey.{IwKey}
 
@@ -141,9 +141,13 @@ shows s x = after allFeatures [] (step s) 0 x
 abbrev pub writes : ℕ → ℕ → ℕ → Call
 writes cpl address value = write (record { processor = 0; cpl = cpl; address = address; value = value })
 
--- after calls, IA32_IWKEYBACKUP_STATUS reads as this
+-- after calls, a status register of processor 0 reads as this
+abbrev pub statusReads : ℕ → List Call → ℕ → Example
+statusReads address before x = after allFeatures before (read (record { processor = 0; cpl = 0; address = address })) 0 (valueIs x)
+
+-- IA32_IWKEYBACKUP_STATUS
 abbrev pub backupStatus : List Call → ℕ → Example
-backupStatus before x = after allFeatures before (read (record { processor = 0; cpl = 0; address = 0x991 })) 0 (valueIs x)
+backupStatus = statusReads 0x991
 
 -- ---- strings
 
@@ -283,4 +287,28 @@ addressSizeExamples =
     -- 67 and F0 67 alone give 9.
     ∷ gives (on (rax 0) 48 (0x67 ∷ [])) 9
     ∷ gives (on (rax 0) 48 (0xF0 ∷ 0x67 ∷ [])) 9
+    ∷ []
+
+-- change request (v): taken
+abbrev pub takenExamples : List Example
+takenExamples =
+    let out = writes 0 0xD91 1 in
+    let good = settle (record { code = 0 }) in
+    let bad = settle (record { code = 1 }) in
+    let new = sleep (record { code = 1 }) in
+    -- "sets consumed when pending is 1": 8, and then 9 or 12 as without it
+    backupStatus (out ∷ []) 0
+    ∷ backupStatus (out ∷ taken ∷ []) 8
+    ∷ backupStatus (out ∷ taken ∷ good ∷ []) 9
+    ∷ backupStatus (out ∷ taken ∷ bad ∷ []) 12
+    -- "and otherwise does nothing": before any copy out, and after a wake
+    ∷ backupStatus (taken ∷ []) 0
+    ∷ backupStatus (out ∷ new ∷ taken ∷ []) 1
+    -- "0xD91 act[s] as before": consumed does not free it, and one that fails clears nothing; once settled, one clears consumed
+    ∷ statusReads 0x990 (out ∷ taken ∷ out ∷ []) 0
+    ∷ backupStatus (out ∷ taken ∷ out ∷ []) 8
+    ∷ statusReads 0x990 (out ∷ taken ∷ good ∷ out ∷ []) 1
+    ∷ backupStatus (out ∷ taken ∷ good ∷ out ∷ []) 0
+    -- sleep: as without it
+    ∷ backupStatus (out ∷ taken ∷ new ∷ []) 1
     ∷ []

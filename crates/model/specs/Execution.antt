@@ -6,11 +6,11 @@ use Prim.Native.Nat.{ℕ}
 use lib.Dec.{eqb}
 use lib.ListN.{replicate}
 use Rattle.model.specs.Records.{processorLimit, zeroProcessor, absent, processorAt, withKey, withProcessors, withProcessor, withPlatform}
-use Rattle.model.specs.Calls.{PowerOn, StepCall, ReadCall, WriteCall, Call, step, read, write, settle, sleep, reset, lentCpu, Answer, Outcome}
+use Rattle.model.specs.Calls.{PowerOn, StepCall, ReadCall, WriteCall, Call, step, read, write, settle, sleep, reset, taken, lentCpu, Answer, Outcome}
 use Rattle.model.specs.Validity.{validCount, validFeatures, valid}
 use Rattle.model.specs.Refusals.{View, test, first, refusal}
 use Rattle.model.specs.Instructions.{executed}
-use Rattle.model.specs.Backup.{written, registerRead, settled, woken}
+use Rattle.model.specs.Backup.{written, registerRead, settled, withTaken, woken}
 use Rattle.model.specs.declared.Platform.{Platform}
 use Rattle.model.specs.declared.Machine.{Machine}
 
@@ -69,6 +69,7 @@ perform m (write w) = performWrite m w
 perform m (settle s) = done (withPlatform (settled (s .code) (m .platform)) m) [] 0
 perform m (sleep s) = done (withProcessors (replicate processorLimit zeroProcessor) (withPlatform (woken (s .code) (m .platform)) m)) [] 0
 perform m reset = done (fresh (m .count) (m .features)) [] 0
+perform m taken = done (withPlatform (withTaken (m .platform)) m) [] 0
 
 -- the scope, "Turned back": 1 comes first
 abbrev pub numberOf : Machine → Call → ℕ

@@ -15,7 +15,7 @@ use Rattle.isa.specs.declared.LoadIwKey.{LoadIwKey}
 use Rattle.model.specs.Numbers.{bit}
 use Rattle.model.specs.Records.{zeroKey}
 use Rattle.model.specs.Forms.{noBackup, notReady}
-use Rattle.model.specs.Calls.{PowerOn, StepCall, WriteCall, Call, step, read, write, settle, sleep, reset}
+use Rattle.model.specs.Calls.{PowerOn, StepCall, WriteCall, Call, step, read, write, settle, sleep, reset, taken, onStep}
 use Rattle.model.specs.Refusals.{View, refusal}
 use Rattle.model.specs.Instructions.{loadedKey}
 use Rattle.model.specs.declared.IwKey.{IwKey}
@@ -51,12 +51,7 @@ callAt calls i = getD calls i reset
 
 -- "NoBackup of name i is EAX bit 0 of call i, of name 0 it is 0."
 abbrev pub noBackupIn : Call → ℕ
-noBackupIn (step s) = noBackup (s .cpu)
-noBackupIn (read r) = 0
-noBackupIn (write w) = 0
-noBackupIn (settle s) = 0
-noBackupIn (sleep s) = 0
-noBackupIn reset = 0
+noBackupIn = onStep (λ s. noBackup (s .cpu)) 0
 
 abbrev pub noBackupOf : List Call → ℕ → ℕ
 noBackupOf calls zero = 0
@@ -68,12 +63,7 @@ keyMade s none = zeroKey
 keyMade s (some l) = loadedKey l (s .random) (s .cpu)
 
 abbrev pub keyIn : Call → IwKey
-keyIn (step s) = keyMade s (loadIn (decode (s .string)))
-keyIn (read r) = zeroKey
-keyIn (write w) = zeroKey
-keyIn (settle s) = zeroKey
-keyIn (sleep s) = zeroKey
-keyIn reset = zeroKey
+keyIn = onStep (λ s. keyMade s (loadIn (decode (s .string)))) zeroKey
 
 abbrev pub keyOf : List Call → ℕ → IwKey
 keyOf calls zero = zeroKey
@@ -129,7 +119,7 @@ nameKept code h = cond (eqb code 2) none (cond (eqb code 1 && eqb (h .pending) 1
 abbrev pub wokenNames : PowerOn → ℕ → History → History
 wokenNames p code h = record { names = replicate (p .count) 0; backup = nameKept code h; store = nameKept code h; pending = 0 }
 
--- "Reset: all as at first."; "Any other call ..: nothing moves." The call has the number after those past.
+-- "Reset: all as at first."; "Any other call ..: nothing moves."; change request (v), of taken: "moves no name on it". The call has the number after those past.
 unfoldable pub moved : PowerOn → List Call → Call → History → History
 moved p past (step s) h = steppedNames (suc (length past)) s h
 moved p past (read r) h = h
@@ -137,6 +127,7 @@ moved p past (write w) h = writtenNames past w h
 moved p past (settle s) h = settledNames (s .code) h
 moved p past (sleep s) h = wokenNames p (s .code) h
 moved p past reset h = atFirst p
+moved p past taken h = h
 
 -- "and any that a refusal stops: nothing moves"
 abbrev pub next : PowerOn → List Call → Call → History → History

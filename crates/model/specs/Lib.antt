@@ -11,6 +11,7 @@ pub mod Execution
 pub mod History
 pub mod Demand3
 pub mod Status
+pub mod Taken
 pub mod Layout
 pub mod Lent
 pub mod Examples

@@ -16,11 +16,10 @@ use Rattle.isa.specs.declared.Instruction.{Instruction}
 use Rattle.isa.specs.declared.Instruction.the-variants as instruction
 use Rattle.isa.specs.declared.Segment.{Segment}
 use Rattle.isa.specs.declared.Segment.the-variants.{Data, Stack}
-use Rattle.model.specs.Numbers.{bit}
 use Rattle.model.specs.Records.{keyLocker, firmwareEnabled, wideForms, backupRegisters, noBackupSupported, randomSource}
 use Rattle.model.specs.Cpu.{cpuSize, register, eax, cpl, control, cr4Kl, cr4Osfxsr, cr0Em, cr0Ts, zeroFieldSet}
 use Rattle.model.specs.Forms.{formOf, registerOf, handleAddress, keySource, noBackup}
-use Rattle.model.specs.Calls.{StepCall, ReadCall, WriteCall, Call, step, read, write, settle, sleep, reset}
+use Rattle.model.specs.Calls.{StepCall, ReadCall, WriteCall, Call, step, read, write, settle, sleep, reset, taken}
 
 -- all that a refusal other than 1 depends on, besides the call
 pub record View : Type 0 where
@@ -225,6 +224,7 @@ operands (write w) = ofRegister (w .processor) (w .cpl) (writeFault w)
 operands (settle s) = ofCode (leb 2 (s .code))
 operands (sleep s) = ofCode (leb 3 (s .code))
 operands reset = ofCode false
+operands taken = ofCode false
 
 -- the refusal of a step that passes 1, by what is looked at in it, or 0
 abbrev pub stepRefusal : View → Asked → ℕ

@@ -1,5 +1,5 @@
 -- What the status registers tell (Intel 343965-001US chapter 4), over the names of the history machine: IA32_COPY_STATUS (0x990) of a processor, and the
--- valid bit of IA32_IWKEYBACKUP_STATUS (0x991).
+-- valid and consumed bits of IA32_IWKEYBACKUP_STATUS (0x991).
 -- Assumes nothing.
 use mathlib.Core.Path.{_≡_}
 use mathlib.Core.Bool.{Bool, true, false, cond, not, _&&_, _||_}
@@ -9,7 +9,7 @@ use Prim.Native.Nat.{ℕ}
 use lib.Dec.{eqb}
 use lib.ListN.{length}
 use Rattle.model.specs.Numbers.{bit}
-use Rattle.model.specs.Calls.{PowerOn, ReadCall, WriteCall, Call, step, read, write, settle, sleep, reset}
+use Rattle.model.specs.Calls.{PowerOn, ReadCall, WriteCall, Call, step, read, write, settle, sleep, reset, taken}
 use Rattle.model.specs.Refusals.{refusal}
 use Rattle.model.specs.Execution.{Run}
 use Rattle.model.specs.History.{History, atFirst, viewGiven, loads, copiesOut, next, history}
@@ -23,6 +23,12 @@ isName (some n) = true
 -- which calls a refusal does not stop
 abbrev pub accepted : PowerOn → Call → Bool
 accepted p c = eqb (refusal (viewGiven p) c) 0
+
+-- something that is told at the end of a list: each call moves it that a refusal does not stop, from the calls past, the names just before it, and what was
+-- told then
+abbrev pub toldFrom : {A : Type 0} → (List Call → History → Call → A → A) → PowerOn → List Call → History → A → List Call → A
+toldFrom move p past h old [] = old
+toldFrom move p past h old (c ∷ l) = toldFrom move p (past ++ (c ∷ [])) (next p past c h) (cond (accepted p c) (move past h c old) old) l
 
 -- ---- copy status
 
@@ -39,13 +45,10 @@ statusMoved past h q (write w) old = cond (bit 0 (w .value) && eqb (w .processor
 statusMoved past h q (settle s) old = old
 statusMoved past h q (sleep s) old = 0
 statusMoved past h q reset old = 0
-
-abbrev pub statusNext : PowerOn → List Call → History → ℕ → Call → ℕ → ℕ
-statusNext p past h q c old = cond (accepted p c) (statusMoved past h q c old) old
+statusMoved past h q taken old = old
 
 abbrev pub statusFrom : PowerOn → List Call → History → ℕ → ℕ → List Call → ℕ
-statusFrom p past h q old [] = old
-statusFrom p past h q old (c ∷ l) = statusFrom p (past ++ (c ∷ [])) (next p past c h) q (statusNext p past h q c old) l
+statusFrom p past h q = toldFrom (λ past h. statusMoved past h q) p past h
 
 -- the copy status of processor q after a list of calls from power-on: 0 at first
 abbrev pub copyStatus : PowerOn → List Call → ℕ → ℕ
@@ -59,6 +62,7 @@ noCopyOn q (write w) = not (bit 0 (w .value) && eqb (w .processor) q)
 noCopyOn q (settle s) = true
 noCopyOn q (sleep s) = false
 noCopyOn q reset = false
+noCopyOn q taken = true
 
 -- each of the calls is refused or leaves it
 abbrev pub statusLeft : PowerOn → ℕ → List Call → Bool
@@ -71,6 +75,23 @@ statusLeft p q (c ∷ l) = (not (accepted p c) || noCopyOn q c) && statusLeft p 
 abbrev pub backedUp : History → Bool
 backedUp h = eqb (h .pending) 0 && isName (h .store)
 
+-- ---- consumed
+
+-- what a call does to consumed, from the names just before it: settle and taken set it while a backup is pending; a copy out that succeeds, a sleep and a reset
+-- clear it; no other call touches it
+abbrev pub consumedMoved : List Call → History → Call → ℕ → ℕ
+consumedMoved past h (step s) old = old
+consumedMoved past h (read r) old = old
+consumedMoved past h (write w) old = cond (bit 0 (w .value) && (eqb (w .address) 0xD91 && copiesOut past (w .processor) h)) 0 old
+consumedMoved past h (settle s) old = cond (eqb (h .pending) 1) 1 old
+consumedMoved past h (sleep s) old = 0
+consumedMoved past h reset old = 0
+consumedMoved past h taken old = cond (eqb (h .pending) 1) 1 old
+
+-- consumed after a list of calls from power-on: 0 at first
+abbrev pub consumed : PowerOn → List Call → ℕ
+consumed p calls = toldFrom consumedMoved p [] (atFirst p) 0 calls
+
 -- ---- what reads answer
 
 -- after a power-on p that was not refused, the calls were made and gave r
@@ -81,6 +102,12 @@ pub record StatusRegisters (p : PowerOn) (calls : List Call) (r : Run) : Type 0 
   -- bit 0 of a read of 0x991, on any processor
   pub validRead : (xs : List Call) (c : ReadCall) (ys : List Call) → calls ≡ xs ++ read c ∷ ys → answerAt r (length xs) .number ≡ 0
       → c .address ≡ 0x991 → bit 0 (answerAt r (length xs) .value) ≡ backedUp (history p xs)
+  -- and bit 3
+  pub consumedRead : (xs : List Call) (c : ReadCall) (ys : List Call) → calls ≡ xs ++ read c ∷ ys → answerAt r (length xs) .number ≡ 0
+      → c .address ≡ 0x991 → bit 3 (answerAt r (length xs) .value) ≡ eqb (consumed p xs) 1
+  -- 8, consumed and neither valid nor error, is read only while a backup is pending
+  pub consumedAlone : (xs : List Call) (c : ReadCall) (ys : List Call) → calls ≡ xs ++ read c ∷ ys → answerAt r (length xs) .number ≡ 0
+      → c .address ≡ 0x991 → answerAt r (length xs) .value ≡ 8 → history p xs .pending ≡ 1
 
 -- ---- the operator's rule
 
@@ -93,6 +120,7 @@ leaves past h q (write w) =
 leaves past h q (settle s) = true
 leaves past h q (sleep s) = false
 leaves past h q reset = false
+leaves past h q taken = true
 
 -- of calls that follow those past, each is refused or leaves both
 abbrev pub undisturbed : PowerOn → List Call → History → ℕ → List Call → Bool

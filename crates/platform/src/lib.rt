@@ -138,6 +138,18 @@ pub fn settle(code: u8, f: Platform) -> Platform
     f
 }
 
+// Change request (v): the platform has taken IWKeyBackup, and its storage is still at work on it.
+pub fn note_taken(f: Platform) -> Platform
+    ensures { λ r. ⌜ r ≡ backup.withTaken f ⌝ }
+{
+    if f.pending != 1 {
+        return f;
+    }
+    let mut platform = f;
+    platform.consumed = 1;
+    platform
+}
+
 // "If pending, the store becomes what it was, the backup, or junk; if not, only code 2 alters it." Junk is an absent store.
 fn store_kept(code: u8, f: Platform) -> Slot
     ensures { λ r. ⌜ r ≡ backup.storeKept code f ⌝ }
