@@ -415,6 +415,13 @@ def settle(machine, code):
     return m.to_bytes()
 
 
+def taken(machine):
+    m = machine_from(machine)
+    if m.pending:
+        m.consumed = 1
+    return m.to_bytes()
+
+
 def sleep(machine, code):
     m = machine_from(machine)
     refuse_if(code not in [OLD, NEW, JUNK], 2)

@@ -30,7 +30,7 @@ STDIN_LIMIT = 131_072
 
 # ---- the calls as lines, as crates/scenarios/src/call.rt has them
 
-KINDS = ["power-on", "read", "write", "settle", "sleep", "reset", "step", "lend", "cpuid"]
+KINDS = ["power-on", "read", "write", "settle", "sleep", "reset", "step", "lend", "cpuid", "taken"]
 
 
 def with_zeros_short(block):
@@ -116,6 +116,9 @@ class Script:
 
     def reset(self, name):
         return self.plain(name, "reset", lambda: model.reset(self.machine))
+
+    def taken(self, name):
+        return self.plain(name, "taken", lambda: model.taken(self.machine))
 
     def lend(self, name, record):
         """The record takes the machine's place; nothing is called."""
@@ -334,6 +337,35 @@ def second_copy_out(s):
     expect("second-copy-out", model.machine_from(s.machine).backup, B)
 
 
+def taken_backup(s):
+    """The platform has taken a second backup: a third one fails as before, and what becomes of the second is for settle and sleep to say, as before."""
+    s.power_on("taken-power-on", count=2)
+    load(s, "taken-load-first", A)
+    s.write("taken-copy-out-first", 0, COPY_OUT)
+    s.settle("taken-settle-first", GOOD)
+    load(s, "taken-load-second", B)
+    s.write("taken-copy-out-second", 0, COPY_OUT)
+    expect("taken", s.taken("taken-taken"), 0)
+    backup_status(s, "taken-backup-status", 0b1000)
+    s.write("taken-copy-out-third", 1, COPY_OUT)
+    status(s, "taken-status-third", 1, 0)
+    backup_status(s, "taken-backup-status-third", 0b1000)
+    snapshot = s.machine
+    for name, call, wanted, backup, store in [
+        ("settle-good", lambda name: s.settle(name, GOOD), 0b1001, B, B),
+        ("settle-bad", lambda name: s.settle(name, BAD), 0b1100, B, None),
+        ("sleep-old", lambda name: s.sleep(name, OLD), 0b0001, A, A),
+        ("sleep-new", lambda name: s.sleep(name, NEW), 0b0001, B, B),
+        ("sleep-junk", lambda name: s.sleep(name, JUNK), 0b0100, None, None),
+        ("reset", lambda name: s.reset(name), 0, None, None),
+    ]:
+        s.lend(f"taken-{name}-lend", snapshot)
+        expect(f"taken-{name}", call(f"taken-{name}"), 0)
+        backup_status(s, f"taken-{name}-backup-status", wanted)
+        after = model.machine_from(s.machine)
+        expect(f"taken-{name}", (after.backup, after.store, after.pending), (backup, store, 0))
+
+
 def junk_wake(s):
     s.power_on("junk-wake-power-on", count=2)
     load(s, "junk-wake-load", A)
@@ -481,6 +513,7 @@ def attacks(s):
     stale_store(s)
     no_store(s)
     second_copy_out(s)
+    taken_backup(s)
     junk_wake(s)
     bad_settle(s)
     no_backup(s)
@@ -665,15 +698,23 @@ def backup_statuses(s):
     s.power_on("backup-status-power-on", count=2)
     backup_status(s, "backup-status-power-on", 0)
     for name, call, wanted in [
+        ("taken-none", lambda name: s.taken(name), 0),
         ("copy-out", lambda name: s.write(name, 0, COPY_OUT), 0),
         ("settle-good", lambda name: s.settle(name, GOOD), 9),
+        ("taken-settled", lambda name: s.taken(name), 9),
         ("copy-out-again", lambda name: s.write(name, 0, COPY_OUT), 0),
         ("wake-old", lambda name: s.sleep(name, OLD), 1),
         ("copy-out-third", lambda name: s.write(name, 0, COPY_OUT), 0),
         ("wake-new", lambda name: s.sleep(name, NEW), 1),
+        ("taken-woken", lambda name: s.taken(name), 1),
         ("wake-junk", lambda name: s.sleep(name, JUNK), 4),
+        ("taken-junk", lambda name: s.taken(name), 4),
         ("copy-out-fourth", lambda name: s.write(name, 0, COPY_OUT), 0),
+        ("taken", lambda name: s.taken(name), 8),
+        ("taken-again", lambda name: s.taken(name), 8),
         ("settle-bad", lambda name: s.settle(name, BAD), 12),
+        ("copy-out-fifth", lambda name: s.write(name, 0, COPY_OUT), 0),
+        ("taken-fifth", lambda name: s.taken(name), 8),
         ("reset", lambda name: s.reset(name), 0),
     ]:
         expect(f"backup-status-{name}", call(f"backup-status-{name}"), 0)
@@ -767,6 +808,7 @@ def whole_record(s):
         ("settle-good", lambda name: s.settle(name, GOOD), [0, 1, 0, 1]),
         ("wake-old", lambda name: s.sleep(name, OLD), [0, 1, 0, 0]),
         ("copy-out", lambda name: s.write(name, 0, COPY_OUT), [1, 0, 0, 0]),
+        ("taken", lambda name: s.taken(name), [1, 0, 0, 1]),
         ("settle-bad", lambda name: s.settle(name, BAD), [0, 0, 1, 1]),
         ("wake-junk", lambda name: s.sleep(name, JUNK), [0, 0, 1, 0]),
     ]:
@@ -1027,6 +1069,8 @@ def lent_records(s):
         s.lend(f"lent-{name}", bytes(record))
         expect(name, s.reset(f"lent-{name}-reset"), 1)
         expect(name, s.settle(f"lent-{name}-settle", 2), 1)
+        if at in [0, *range(920, 924)]:
+            expect(name, s.taken(f"lent-{name}-taken"), 1)
     s.lend("lent-present", present.to_bytes())
     expect("present", s.reset("lent-present-reset"), 0)
     for code in [GOOD, BAD]:
@@ -1035,6 +1079,15 @@ def lent_records(s):
     for code in [OLD, NEW, JUNK]:
         s.lend("lent-pending-alone", Machine(2, 0, store=A, pending=1, valid=1, error=1, consumed=1).to_bytes())
         s.sleep(f"lent-pending-alone-sleep-{code}", code)
+    for name, machine, consumed in [
+        ("not-pending", Machine(2, 0, valid=1, error=1), 0),
+        ("pending-alone", Machine(2, 0, pending=1, valid=1, error=1), 1),
+        ("pending-store", Machine(2, 0, store=A, pending=1, valid=1), 1),
+        ("pending-consumed", Machine(2, 0, backup=A, pending=1, error=1, consumed=1), 1),
+    ]:
+        s.lend(f"lent-{name}", machine.to_bytes())
+        expect(name, s.taken(f"lent-{name}-taken"), 0)
+        expect(name, s.machine, machine.to_bytes()[:923] + bytes([consumed]))
     keep = IWKey(B.integrity, B.encryption, source=1, no_backup=1)
     s.lend("lent-copy-in", Machine(2, model.ALL_FEATURES, backup=keep, copy_status=[1, 1] + [0] * 14).to_bytes())
     s.write("lent-copy-in-no-backup", 1, COPY_IN)
@@ -1190,7 +1243,8 @@ def random_cpuid(rng, s, name):
 def random_call(rng, s, name):
     processor = often(rng, lambda: rng.randrange(s.machine[0] or 1), lambda: rng.randrange(256), 0.95)
     cpl = often(rng, lambda: 0, lambda: rng.randrange(6), 0.95)
-    kind = rng.choices(["step", "write", "read", "cpuid", "settle", "sleep", "reset", "lend", "power-on"], [30, 10, 4, 4, 4, 3, 1, 4, 1])[0]
+    kinds = {"step": 30, "write": 10, "read": 4, "cpuid": 4, "settle": 4, "taken": 4, "sleep": 3, "reset": 1, "lend": 4, "power-on": 1}
+    kind = rng.choices(list(kinds), kinds.values())[0]
     if kind == "step":
         random_step(rng, s, name)
     elif kind == "write":
@@ -1202,6 +1256,8 @@ def random_call(rng, s, name):
         random_cpuid(rng, s, name)
     elif kind == "settle":
         s.settle(name, often(rng, lambda: rng.randrange(2), lambda: rng.randrange(256)))
+    elif kind == "taken":
+        s.taken(name)
     elif kind == "sleep":
         s.sleep(name, often(rng, lambda: rng.randrange(3), lambda: rng.randrange(256)))
     elif kind == "reset":

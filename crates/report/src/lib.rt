@@ -70,7 +70,8 @@ pub fn print_kind(kind: u8) {
         5 => print(b" reset"),
         6 => print(b" step"),
         7 => print(b" lend"),
-        _ => print(b" cpuid"),
+        8 => print(b" cpuid"),
+        _ => print(b" taken"),
     }
 }
 

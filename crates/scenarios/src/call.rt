@@ -49,7 +49,8 @@ fn outcome(m: Machine, a: [u8; 960]) -> Outcome {
         2 => machine::write(m, x, y, address, value),
         3 => machine::settle(m, x),
         4 => machine::sleep(m, x),
-        _ => machine::reset(m),
+        5 => machine::reset(m),
+        _ => machine::taken(m),
     }
 }
 
@@ -136,10 +137,11 @@ fn call(m: Machine, text: &[u8]) -> Machine {
             print_machine(m, after);
             after
         }
-        _ => {
+        8 => {
             cpuid(m, &a);
             m
         }
+        _ => other(m, a),
     }
 }
 
