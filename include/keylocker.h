@@ -32,7 +32,7 @@
 #include <stddef.h>
 #include <stdint.h>
 
-#define KEYLOCKER_VERSION "1.3.0"
+#define KEYLOCKER_VERSION "1.4.0"
 
 /* bytes of stack that a call needs at most; the keyring's two need about 1 KiB of it */
 #define KEYLOCKER_STACK_SIZE 7168
@@ -243,20 +243,24 @@ uint32_t keylocker_cpuid(const uint8_t *machine, size_t machine_len, const uint8
 #define KEYLOCKER_COPY_PLATFORM_TO_LOCAL 0xD92 /* the processor's IWKey := backup; fails if there is none */
 
 /* What is read from IA32_COPY_STATUS: whether the last copy on this processor, out or in, worked; 0 where there was none since power-on, sleep or reset.
- * It stays 1 when another IWKey is loaded, and when another processor overwrites the backup. Directly after a copy out, 1 means that the platform has
- * taken the IWKey, not that persistent storage holds it. */
+ * It stays 1 when another IWKey is loaded, and when another processor overwrites the backup. Directly after a copy out, 1 means that the backup holds the
+ * IWKey, not that persistent storage does. */
 #define KEYLOCKER_COPY_STATUS_DONE 0x1
 
 /* What is read from IA32_IWKEYBACKUP_STATUS, on any processor. Valid is 1 exactly while no backup is pending and persistent storage holds an IWKey; backup
  * and storage then hold the same one, and a sleep with code old or new leaves it in the backup. While a backup is pending valid is 0.
  *
+ * Consumed is 1 once the platform has taken the backup, by keylocker_taken or by keylocker_settle, which sets valid or error with it; a copy out that works, a
+ * sleep and a reset clear it. Alone (the value 8) it says that storage is still at work: not that the IWKey is safe there, and not that another copy out can
+ * be made, which fails until the backup has settled.
+ *
  * Before a planned sleep: write 1 to KEYLOCKER_COPY_LOCAL_TO_PLATFORM, read copy status on the same processor at once and stop unless it is 1, wait until
- * valid or error is 1, and sleep only if it is valid. Persistent storage then holds this processor's IWKey, provided that in between no IWKey was loaded or
- * copied in on it, no other copy out worked on any processor, and there was no sleep and no reset. A sleep while the backup is pending may leave the
- * IWKey that storage had before, this one, or none. */
+ * valid or error is 1 (consumed does not count), and sleep only if it is valid. Persistent storage then holds this processor's IWKey, provided that in
+ * between no IWKey was loaded or copied in on it, no other copy out worked on any processor, and there was no sleep and no reset. A sleep while the
+ * backup is pending may leave the IWKey that storage had before, this one, or none. */
 #define KEYLOCKER_BACKUP_VALID 0x1
 #define KEYLOCKER_BACKUP_ERROR 0x4
-#define KEYLOCKER_BACKUP_CONSUMED 0x8 /* persistent storage has done with it, well or badly; a sleep clears it */
+#define KEYLOCKER_BACKUP_CONSUMED 0x8 /* the platform has taken the backup */
 
 /* cpl is the CPL that the register is read or written at; all but 0 are refused. *value is written only where the answer is 0. The machine is not written. */
 uint32_t keylocker_read(const uint8_t *machine, size_t machine_len, uint8_t processor, uint8_t cpl, uint32_t address, uint64_t *value);
@@ -264,7 +268,11 @@ uint32_t keylocker_read(const uint8_t *machine, size_t machine_len, uint8_t proc
 /* A copy that fails is no refusal: the answer is 0, and IA32_COPY_STATUS tells. */
 uint32_t keylocker_write(uint8_t *machine, size_t machine_len, uint8_t processor, uint8_t cpl, uint32_t address, uint64_t value);
 
-/* Persistent storage has taken the backup that is pending, or has failed and holds nothing. Does nothing where none is pending. */
+/* The platform has taken the pending backup while its storage is still at work: sets KEYLOCKER_BACKUP_CONSUMED, and nothing else. Does nothing where none is
+ * pending. It may come before keylocker_settle or be left out: that, sleep and the copies act as without it. Answers 0 or KEYLOCKER_BAD_MACHINE. */
+uint32_t keylocker_taken(uint8_t *machine, size_t machine_len);
+
+/* Persistent storage holds the backup that was pending, or has failed and holds nothing. Does nothing where none is pending. */
 #define KEYLOCKER_SETTLE_GOOD 0
 #define KEYLOCKER_SETTLE_BAD 1
 uint32_t keylocker_settle(uint8_t *machine, size_t machine_len, uint8_t code);
