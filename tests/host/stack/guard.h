@@ -17,6 +17,7 @@ struct entries {
     __typeof__(keylocker_cpuid) *cpuid;
     __typeof__(keylocker_read) *read;
     __typeof__(keylocker_write) *write;
+    __typeof__(keylocker_taken) *taken;
     __typeof__(keylocker_settle) *settle;
     __typeof__(keylocker_sleep) *sleep;
     __typeof__(keylocker_reset) *reset;

@@ -99,6 +99,9 @@ const struct kind kinds[] = {
     {"write 0xD91", WRITE, KEYLOCKER_COPY_LOCAL_TO_PLATFORM, NULL, 0, false, true},
     {"write 0xD92", WRITE, KEYLOCKER_COPY_PLATFORM_TO_LOCAL, with_zero_key, 0, false, true},
     {"write, refused", WRITE, KEYLOCKER_COPY_STATUS, NULL, KEYLOCKER_GP, false, false},
+    {"taken", TAKEN, 0, with_pending, 0, false, true},
+    {"taken, nothing pending", TAKEN, 0, NULL, 0, false, false},
+    {"taken, refused", TAKEN, 0, with_bad_machine, KEYLOCKER_BAD_MACHINE, false, false},
     {"settle, good", SETTLE, KEYLOCKER_SETTLE_GOOD, with_pending, 0, false, true},
     {"settle, bad", SETTLE, KEYLOCKER_SETTLE_BAD, with_pending, 0, false, true},
     {"settle, refused", SETTLE, 2, with_pending, KEYLOCKER_BAD_CODE, false, false},
@@ -184,6 +187,8 @@ static uint32_t answer(const struct kind *kind, const struct entries *entries, s
         return entries->read(lent->machine, length, PROCESSOR, 0, kind->number, &lent->value);
     case WRITE:
         return entries->write(lent->machine, length, PROCESSOR, 0, kind->number, 1);
+    case TAKEN:
+        return entries->taken(lent->machine, length);
     case SETTLE:
         return entries->settle(lent->machine, length, (uint8_t)kind->number);
     case SLEEP:

@@ -17,7 +17,7 @@ struct lent {
     uint32_t answer;
 };
 
-enum call { POWER_ON, STEP, CPUID, READ, WRITE, SETTLE, SLEEP, RESET, LOOKUP, ADD };
+enum call { POWER_ON, STEP, CPUID, READ, WRITE, TAKEN, SETTLE, SLEEP, RESET, LOOKUP, ADD };
 
 struct kind {
     const char *name;
