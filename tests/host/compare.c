@@ -12,7 +12,7 @@
 
 const uint64_t VALUE_BEFORE = UINT64_C(0xA5C3960F1E2D4B78);
 
-const char *const call_names[CALL_KINDS] = {"power-on", "step", "read", "write", "settle", "sleep", "reset", "cpuid"};
+const char *const call_names[CALL_KINDS] = {"power-on", "step", "read", "write", "settle", "sleep", "reset", "taken", "cpuid"};
 
 /* A buffer of exactly its length, so that valgrind sees any access behind it. Of no bytes it is a null pointer or an empty allocation. */
 static struct buffer exact_copy(const struct trial *t, struct buffer from)
@@ -67,6 +67,8 @@ static uint32_t library_call(struct run *r)
         return keylocker_settle(r->machine.bytes, r->machine.length, c->code);
     case SLEEP:
         return keylocker_sleep(r->machine.bytes, r->machine.length, c->code);
+    case TAKEN:
+        return keylocker_taken(r->machine.bytes, r->machine.length);
     case CPUID:
         return keylocker_cpuid(r->machine.bytes, r->machine.length, c->cpu.bytes, c->cpu.length, c->leaf, c->subleaf, r->results.leaf[EAX],
                                r->results.leaf[EBX], r->results.leaf[ECX], r->results.leaf[EDX]);
@@ -96,6 +98,8 @@ static void misuse(struct run *r)
         *r->results.leaf[EDX] = 0;
     if (FAULT(CPUID_WRITES_MACHINE) && c->kind == CPUID && r->machine.length)
         r->machine.bytes[r->machine.length - 1] ^= 1;
+    if (FAULT(TAKEN_REFUSED_WRITES) && c->kind == TAKEN && r->number && r->machine.length)
+        r->machine.bytes[r->machine.length - 1] = 1;
     if (FAULT(BEHIND_MACHINE) && r->machine.bytes)
         behind = r->machine.bytes[r->machine.length];
     if (FAULT(BEHIND_CPU) && c->cpu.bytes)

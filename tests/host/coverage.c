@@ -49,6 +49,17 @@
     X(SLEEP_AFTER_BAD, "sleep with a backup and no store")                            \
     X(RESET_BACKUP, "reset with a backup")                                            \
     X(PLATFORM_NO_FEATURES, "settle, sleep or reset without KL or backup feature")    \
+    X(TAKEN_NO_FEATURES, "taken sets consumed without KL or backup feature")          \
+    X(TAKEN_AGAIN, "in a list: taken, taken before")                                  \
+    X(TAKEN_COPY_OUT, "in a list: copy out failed, taken before")                     \
+    X(TAKEN_COPY_IN, "in a list: copy in worked, taken before")                       \
+    X(TAKEN_READ, "in a list: backup status read, 8")                                 \
+    X(TAKEN_SETTLE_GOOD, "in a list: settle good, taken before")                      \
+    X(TAKEN_SETTLE_BAD, "in a list: settle bad, taken before")                        \
+    X(TAKEN_SLEEP_OLD, "in a list: sleep, old, taken before")                         \
+    X(TAKEN_SLEEP_NEW, "in a list: sleep, new, taken before")                         \
+    X(TAKEN_SLEEP_JUNK, "in a list: sleep, junk, taken before")                       \
+    X(TAKEN_RESET, "in a list: reset, taken before")                                  \
     X(CPUID_7_0, "CPUID leaf 7, subleaf 0")                                           \
     X(CPUID_7_0_NO_KL, "CPUID leaf 7, subleaf 0, without the KL feature")             \
     X(CPUID_7_OTHER, "CPUID leaf 7, another subleaf")                                 \
@@ -133,10 +144,32 @@ static const char *const form_texts[] = {"AESENC128KL",     "AESDEC128KL",     "
                                          "AESENCWIDE128KL", "AESDECWIDE128KL", "AESENCWIDE256KL", "AESDECWIDE256KL",
                                          "LOADIWKEY",       "ENCODEKEY128",    "ENCODEKEY256"};
 
+/* The platform by its six bits: whether there are backup and store, then pending, valid, error and consumed. */
+enum { STATES = 1 << 6 };
+#define STATE(backup, store, pending, valid, error, consumed) ((backup) << 5 | (store) << 4 | (pending) << 3 | (valid) << 2 | (error) << 1 | (consumed))
+
+/* those that lists of calls reach */
+static const struct {
+    int state;
+    const char *text;
+} reached[] = {
+    {STATE(0, 0, 0, 0, 0, 0), "no backup"},
+    {STATE(0, 0, 0, 0, 1, 0), "no backup after junk"},
+    {STATE(1, 1, 0, 1, 0, 0), "a backup that a sleep left"},
+    {STATE(1, 0, 1, 0, 0, 0), "pending, nothing in storage"},
+    {STATE(1, 1, 1, 0, 0, 0), "pending, an older one in storage"},
+    {STATE(1, 0, 1, 0, 0, 1), "pending and taken, nothing in storage"},
+    {STATE(1, 1, 1, 0, 0, 1), "pending and taken, an older one in storage"},
+    {STATE(1, 1, 0, 1, 0, 1), "settled well"},
+    {STATE(1, 0, 0, 0, 1, 1), "settled badly"},
+};
+enum { REACHED = sizeof reached / sizeof *reached };
+
 enum { SPOILS_MOST = 128 };
 static unsigned long numbers[CALL_KINDS][NUMBERS], events[EVENT_COUNT], uses[USE_FORMS][2], origins[ORIGINS][2], shapes[SHAPES][2];
 static unsigned long sizes[FORMS][2], sized_shapes[SHAPES][2]; /* forms without 67 and with it; operands behind 67 */
 static unsigned long probed_exceptions[PROBED_COUNT][2], leaves[F_ALL + 1][2]; /* of leaf 0x19 by features and CR4.KL */
+static unsigned long takens[STATES][2]; /* of any record, and in a list */
 static unsigned long spoiled_alone[SPOILS_MOST], spoiled_first[SPOILS_MOST], orders[NUMBERS][NUMBERS];
 
 /* Which refusals a kind of call meets ("a check that a call has no operand for is skipped"). */
@@ -342,6 +375,43 @@ static void cover_read(const struct trial *t, uint64_t value)
     note(!copy && value & 8, EVENT_READ_CONSUMED);
 }
 
+static int state_of(const struct machine *m)
+{
+    return STATE(m->backup.present, m->store.present, m->pending, m->valid, m->error, m->consumed);
+}
+
+static bool lacks_registers(const struct machine *m)
+{
+    return (m->features & (F_KL | F_BACKUP)) != (F_KL | F_BACKUP);
+}
+
+static void cover_taken(const struct machine *before)
+{
+    takens[state_of(before)][0]++;
+    note(lacks_registers(before) && before->pending && !before->consumed, EVENT_TAKEN_NO_FEATURES);
+}
+
+/* A backup that is pending and consumed has been taken: nothing else makes it so. */
+void cover_listed(const struct trial *t, const struct run *library)
+{
+    const struct machine *before = (const struct machine *)t->machine.bytes, *after = (const struct machine *)library->machine.bytes;
+    bool out = t->call.kind == WRITE && t->call.value && t->call.address == COPY_OUT, in = t->call.kind == WRITE && t->call.address == COPY_IN;
+    if (library->number)
+        return;
+    takens[state_of(before)][1] += t->call.kind == TAKEN;
+    if (!before->pending || !before->consumed)
+        return;
+    note(t->call.kind == TAKEN, EVENT_TAKEN_AGAIN);
+    note(out && !after->processors[t->call.processor].copy_status, EVENT_TAKEN_COPY_OUT);
+    note(in && after->processors[t->call.processor].copy_status, EVENT_TAKEN_COPY_IN);
+    note(t->call.kind == READ && *library->results.value == 8, EVENT_TAKEN_READ);
+    note(t->call.kind == RESET, EVENT_TAKEN_RESET);
+    if (t->call.kind == SETTLE)
+        note(true, EVENT_TAKEN_SETTLE_GOOD + t->call.code);
+    if (t->call.kind == SLEEP)
+        note(true, EVENT_TAKEN_SLEEP_OLD + t->call.code);
+}
+
 static void cover_platform(const struct trial *t, const struct machine *before)
 {
     if (t->call.kind == SETTLE) {
@@ -354,7 +424,7 @@ static void cover_platform(const struct trial *t, const struct machine *before)
         note(!before->pending && before->backup.present && !before->store.present, EVENT_SLEEP_AFTER_BAD);
     }
     note(t->call.kind == RESET && before->backup.present, EVENT_RESET_BACKUP);
-    note(t->call.kind != STEP && (before->features & (F_KL | F_BACKUP)) != (F_KL | F_BACKUP), EVENT_PLATFORM_NO_FEATURES);
+    note(t->call.kind != STEP && lacks_registers(before), EVENT_PLATFORM_NO_FEATURES);
 }
 
 static void cover_leaf(const struct trial *t, uint8_t features)
@@ -431,6 +501,8 @@ void cover_call(const struct trial *t, const struct run *library)
         cover_write(t, before, after);
     else if (t->call.kind == CPUID)
         cover_leaf(t, before->features);
+    else if (t->call.kind == TAKEN)
+        cover_taken(before);
     else
         cover_platform(t, before);
 }
@@ -498,6 +570,21 @@ static void print_leaves(const char *title, unsigned set)
     print_pairs(title, "CR4.KL 0", "CR4.KL 1", feature_texts, pairs, 6);
 }
 
+static void print_takens(void)
+{
+    unsigned long pairs[REACHED][2];
+    const char *texts[REACHED];
+    unsigned long least = takens[0][0];
+    for (int i = 0; i < REACHED; i++) {
+        memcpy(pairs[i], takens[reached[i].state], sizeof pairs[i]);
+        texts[i] = reached[i].text;
+    }
+    for (int state = 0; state < STATES; state++)
+        least = takens[state][0] < least ? takens[state][0] : least;
+    print_pairs("taken", "any record", "in a list", texts, pairs, REACHED);
+    printf("  %-54s %10lu\n", "the rarest of all 64 states", least);
+}
+
 void print_coverage(void)
 {
     print_numbers();
@@ -510,6 +597,7 @@ void print_coverage(void)
     print_pairs("exceptions as the library's CPUID foretells", "none", "raised", probed_texts, probed_exceptions, PROBED_COUNT);
     print_leaves("CPUID leaf 0x19 without the feature", 0);
     print_leaves("CPUID leaf 0x19 with the feature", 1);
+    print_takens();
     printf("\n%-56s %10s %10s\n", "reasons of refusals", "alone", "first of 2");
     for (int i = 0; i < spoil_count; i++)
         printf("  %2u %-51s %10lu %10lu\n", spoils[i].number, spoils[i].reason, spoiled_alone[i], spoiled_first[i]);
@@ -538,9 +626,30 @@ static bool leaves_are_full(void)
     return full;
 }
 
+/* every state, and in lists those that they reach; no other ones there, or the table above is wrong */
+static bool takens_are_full(void)
+{
+    bool full = true;
+    unsigned long in_lists = 0;
+    for (int state = 0; state < STATES; state++) {
+        char text[80];
+        snprintf(text, sizeof text, "backup %d, store %d, pending %d, valid %d, error %d, consumed %d", state >> 5, state >> 4 & 1, state >> 3 & 1,
+                 state >> 2 & 1, state >> 1 & 1, state & 1);
+        full &= need(takens[state][0], "taken", text);
+        in_lists += takens[state][1];
+    }
+    for (int i = 0; i < REACHED; i++) {
+        full &= need(takens[reached[i].state][1], "taken in a list", reached[i].text);
+        in_lists -= takens[reached[i].state][1];
+    }
+    if (in_lists)
+        printf("a list reached a state that none does\n");
+    return full && !in_lists;
+}
+
 bool coverage_is_full(void)
 {
-    bool full = leaves_are_full();
+    bool full = leaves_are_full() & takens_are_full();
     for (int kind = 0; kind < CALL_KINDS; kind++)
         for (unsigned number = 0; number < NUMBERS; number++) {
             char text[32];

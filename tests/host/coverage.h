@@ -6,6 +6,8 @@
 #include "history.h"
 
 void cover_call(const struct trial *t, const struct run *library);
+/* a call on a machine that calls alone have written since its power-on */
+void cover_listed(const struct trial *t, const struct run *library);
 /* a use whose handle an earlier encode of the list gave, under a key of the same name */
 void cover_judged(const struct history *history, const struct trial *t, const struct judged *judged);
 

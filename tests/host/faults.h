@@ -109,16 +109,38 @@
     /* backup, sleep, reset */                                                                         \
     X(COPY_OUT_NO_BACKUP, "copies out although NoBackup is set")                                       \
     X(COPY_OUT_PENDING, "copies out although a backup is pending")                                     \
+    X(COPY_OUT_TAKEN, "copies out although a backup is pending, once it is consumed")                  \
     X(STATUS_ON_FAILURE, "a copy that fails sets the copy status")                                     \
     X(COPY_ONCE, "copies out only raise the status once there is a backup")                            \
     X(COPY_IN_ONCE, "copies in only raise the status where the processor has a key")                   \
     X(COPY_IN_PENDING, "copies in fail while a backup is pending")                                     \
     X(COPY_OUT_KEEPS_VALID, "a copy out keeps valid")                                                  \
+    X(COPY_OUT_KEEPS_CONSUMED, "a copy out keeps consumed")                                            \
+    X(FAILED_COPY_CLEARS_CONSUMED, "a copy out that fails while a backup is pending clears consumed")  \
     X(WRITE_0_CLEARS, "writing 0 clears the copy status")                                              \
     X(ERROR_BIT_1, "error is read in bit 1")                                                           \
     X(SETTLE_NOT_PENDING, "settle acts although nothing is pending")                                   \
+    X(SETTLE_NOT_TAKEN, "settle does nothing once the backup is consumed")                             \
+    X(SETTLE_NEEDS_TAKEN, "settle does nothing before the backup is consumed")                         \
+    X(SETTLE_CLEARS_TAKEN, "settle clears consumed where it was set")                                  \
     X(BAD_SETTLE_KEEPS, "a bad settle keeps the store")                                                \
+    X(TAKEN_NOTHING, "taken does nothing")                                                             \
+    X(TAKEN_NOT_PENDING, "taken sets consumed although nothing is pending")                            \
+    X(TAKEN_NEEDS_BACKUP, "taken does nothing where pending is 1 without a backup")                    \
+    X(TAKEN_NEEDS_FEATURE, "taken does nothing without the backup feature")                            \
+    X(TAKEN_VALID, "taken sets valid and not consumed")                                                \
+    X(TAKEN_TOGGLES, "taken twice clears consumed")                                                    \
+    X(TAKEN_CLEARS_PENDING, "taken clears pending")                                                    \
+    X(TAKEN_CLEARS_VALID, "taken clears valid")                                                        \
+    X(TAKEN_CLEARS_ERROR, "taken clears error")                                                        \
+    X(TAKEN_CLEARS_STATUS, "taken clears the copy statuses")                                           \
+    X(TAKEN_STORES, "taken moves the backup to the store")                                             \
+    X(TAKEN_IDLE_REFUSED, "taken is refused where nothing is pending")                                 \
+    X(TAKEN_UNCHECKED, "taken takes a machine that refusal 1 names")                                   \
+    X(TAKEN_CONSUMED_2, "taken writes over consumed without a test of it")                             \
+    X(TAKEN_UNREAD, "consumed is not read while a backup is pending")                                  \
     X(SLEEP_KEEPS_CONSUMED, "sleep keeps consumed")                                                    \
+    X(SLEEP_KEEPS_TAKEN, "sleep keeps consumed of a backup that was pending")                          \
     X(SLEEP_KEEPS_STATUS, "sleep keeps the copy statuses")                                             \
     X(WAKE_NEW_IS_OLD, "wake code 1 gives the old store")                                              \
     X(WAKE_OLD_IS_NEW, "wake code 0 gives the pending backup")                                         \
@@ -126,6 +148,7 @@
     X(JUNK_ONLY_PENDING, "junk is no junk where nothing is pending")                                   \
     X(WAKE_KEEPS_BACKUP, "sleep without pending keeps the backup after a bad settle")                  \
     X(RESET_KEEPS_STORE, "reset keeps backup and store")                                               \
+    X(RESET_KEEPS_CONSUMED, "reset keeps consumed")                                                    \
     /* CPUID */                                                                                        \
     X(CPUID_BIT_22, "CPUID: KL is bit 22 of leaf 7")                                                   \
     X(CPUID_SUBLEAF_OF_7, "CPUID: every subleaf of leaf 7 is answered")                                \
@@ -164,6 +187,9 @@
     X(HISTORY_PRIVILEGE, "history: CPL 0 only allows every CPL")                                       \
     X(HISTORY_SIZE, "history: a 128 form may use a 64-byte handle")                                    \
     X(HISTORY_CPUID, "history: CPUID is a call of the list")                                           \
+    X(HISTORY_TAKEN, "history: taken is no call of the list")                                          \
+    X(HISTORY_TAKEN_STORES, "history: taken moves the backup's name to the store")                     \
+    X(HISTORY_TAKEN_SETTLES, "history: taken ends pending")                                            \
     /* keyrings */                                                                                     \
     X(KEYRING_SIZE_0, "keyring: one of no bytes is taken")                                             \
     X(KEYRING_SIZE_UNEVEN, "keyring: bytes behind the last whole record are taken")                    \
@@ -221,6 +247,7 @@
     X(REFUSED_WRITES_VALUE, "a refused call writes the value")                                         \
     X(REFUSED_WRITES_EDX, "a refused CPUID writes EDX")                                                \
     X(CPUID_WRITES_MACHINE, "CPUID writes the machine")                                                \
+    X(TAKEN_REFUSED_WRITES, "a refused taken writes consumed")                                         \
     X(KEYRING_REFUSED_WRITES, "a refused call writes the keyring")                                     \
     X(KEYRING_REFUSED_WRITES_KIND, "a refused lookup writes the kind")                                 \
     X(KEYRING_REFUSED_WRITES_HANDLE, "a refused lookup writes the handle")                             \

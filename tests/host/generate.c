@@ -72,6 +72,21 @@ static void make_iwkey(const struct world *world, struct iwkey *iwkey)
     iwkey->no_backup = one_in(2);
 }
 
+/* any backup, store and flags that refusal 1 does not name */
+static void make_platform(const struct world *world, struct machine *m)
+{
+    memset(&m->backup, 0, sizeof m->backup);
+    memset(&m->store, 0, sizeof m->store);
+    if ((m->backup.present = one_in(2)))
+        make_iwkey(world, &m->backup.iwkey);
+    if ((m->store.present = one_in(2)))
+        make_iwkey(world, &m->store.iwkey);
+    m->pending = one_in(2);
+    m->valid = one_in(2);
+    m->error = one_in(2);
+    m->consumed = one_in(2);
+}
+
 /* Any record that refusal 1 does not name, also such as no list of calls reaches. */
 static void make_record(const struct world *world, struct machine *m)
 {
@@ -82,14 +97,7 @@ static void make_record(const struct world *world, struct machine *m)
         make_iwkey(world, &m->processors[i].iwkey);
         m->processors[i].copy_status = one_in(2);
     }
-    if ((m->backup.present = one_in(2)))
-        make_iwkey(world, &m->backup.iwkey);
-    if ((m->store.present = one_in(2)))
-        make_iwkey(world, &m->store.iwkey);
-    m->pending = one_in(2);
-    m->valid = one_in(2);
-    m->error = one_in(2);
-    m->consumed = one_in(2);
+    make_platform(world, m);
 }
 
 static void choose_power_on(struct trial *t, unsigned number)
@@ -292,6 +300,16 @@ static void choose_platform(struct trial *t, enum call_kind kind)
     t->meant = 0;
 }
 
+/* Half of them on a copy with any backup, store and flags: of the 64 ways that these can be there or not, lists of calls reach nine. */
+static void choose_taken(const struct world *world, struct trial *t)
+{
+    choose_platform(t, TAKEN);
+    if (one_in(2)) {
+        t->carried = false;
+        make_platform(world, trial_machine(t));
+    }
+}
+
 /* ---- strings and numbers that only the model can judge ---- */
 
 /* prefixes, in the places of each other, more often than other bytes */
@@ -353,14 +371,16 @@ static void mutate(struct trial *t)
 static void choose_call(const struct world *world, struct trial *t)
 {
     unsigned choice = (unsigned)below(1000);
-    if (choice < 610)
+    if (choice < 570)
         choose_step(world, t);
-    else if (choice < 670)
+    else if (choice < 630)
         choose_cpuid(t);
-    else if (choice < 840)
+    else if (choice < 800)
         choose_register(t, true);
-    else if (choice < 900)
+    else if (choice < 860)
         choose_register(t, false);
+    else if (choice < 900)
+        choose_taken(world, t);
     else if (choice < 965)
         choose_platform(t, SETTLE);
     else if (choice < 982)

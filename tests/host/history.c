@@ -128,6 +128,10 @@ uint32_t history_call(struct history *history, const struct call *call, struct i
         settle(history, call->code);
     if (call->kind == SLEEP)
         sleep_and_wake(history, call->code);
+    if (FAULT(HISTORY_TAKEN_STORES) && call->kind == TAKEN && history->pending)
+        history->store = history->backup;
+    if (FAULT(HISTORY_TAKEN_SETTLES) && call->kind == TAKEN)
+        history->pending = false;
     if (call->kind == RESET) {
         all_as_at_first(history);
         history->last_sleep = history->calls;

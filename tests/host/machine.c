@@ -157,15 +157,18 @@ static void step(struct machine *m, struct call *call, const struct instruction 
 static void copy_out(struct machine *m, struct processor *processor)
 {
     bool held_back = processor->iwkey.no_backup && !FAULT(COPY_OUT_NO_BACKUP);
-    bool blocked = m->pending && !FAULT(COPY_OUT_PENDING);
+    bool blocked = m->pending && !FAULT(COPY_OUT_PENDING) && !(FAULT(COPY_OUT_TAKEN) && m->consumed);
     processor->copy_status = (!held_back && !blocked) || FAULT(STATUS_ON_FAILURE);
+    if (FAULT(FAILED_COPY_CLEARS_CONSUMED) && blocked)
+        m->consumed = 0;
     if (held_back || blocked)
         return;
     if (!(FAULT(COPY_ONCE) && m->backup.present))
         m->backup = (struct platform_key){1, processor->iwkey};
     m->pending = 1;
     m->valid = FAULT(COPY_OUT_KEEPS_VALID) ? m->valid : 0;
-    m->error = m->consumed = 0;
+    m->error = 0;
+    m->consumed = FAULT(COPY_OUT_KEEPS_CONSUMED) ? m->consumed : 0;
 }
 
 /* write 0xD92 */
@@ -196,14 +199,23 @@ static uint64_t read_register(const struct machine *m, const struct call *call)
 {
     if (call->address == COPY_STATUS)
         return m->processors[call->processor].copy_status;
-    return (uint64_t)(m->valid | m->error << (FAULT(ERROR_BIT_1) ? 1 : 2) | m->consumed << 3);
+    unsigned consumed = m->consumed && !(FAULT(TAKEN_UNREAD) && m->pending);
+    return (uint64_t)(m->valid | m->error << (FAULT(ERROR_BIT_1) ? 1 : 2) | consumed << 3);
 }
 
 static const struct platform_key absent;
 
+/* consumed is not asked: a taken before changes nothing here */
+static bool settles(const struct machine *m)
+{
+    if ((FAULT(SETTLE_NOT_TAKEN) && m->consumed) || (FAULT(SETTLE_NEEDS_TAKEN) && !m->consumed))
+        return false;
+    return m->pending || FAULT(SETTLE_NOT_PENDING);
+}
+
 static void settle(struct machine *m, uint8_t code)
 {
-    if (!m->pending && !FAULT(SETTLE_NOT_PENDING))
+    if (!settles(m))
         return;
     if (code == 0)
         m->store = m->backup;
@@ -211,8 +223,39 @@ static void settle(struct machine *m, uint8_t code)
         m->store = absent;
     m->valid = code == 0;
     m->error = code == 1;
-    m->consumed = 1;
+    m->consumed = FAULT(SETTLE_CLEARS_TAKEN) ? !m->consumed : 1;
     m->pending = 0;
+}
+
+static bool takes(const struct machine *m)
+{
+    if (FAULT(TAKEN_NOTHING) || (FAULT(TAKEN_NEEDS_BACKUP) && !m->backup.present) || (FAULT(TAKEN_NEEDS_FEATURE) && !(m->features & F_BACKUP)))
+        return false;
+    return m->pending || FAULT(TAKEN_NOT_PENDING);
+}
+
+/* nothing without a fault: all of this taken leaves alone */
+static void take_more(struct machine *m)
+{
+    m->pending = FAULT(TAKEN_CLEARS_PENDING) ? 0 : m->pending;
+    m->valid = FAULT(TAKEN_CLEARS_VALID) ? 0 : m->valid;
+    m->error = FAULT(TAKEN_CLEARS_ERROR) ? 0 : m->error;
+    if (FAULT(TAKEN_STORES))
+        m->store = m->backup;
+    for (int i = 0; i < m->count && FAULT(TAKEN_CLEARS_STATUS); i++)
+        m->processors[i].copy_status = 0;
+}
+
+/* Consumed, and nothing else: the storage is still at work. */
+static void taken(struct machine *m)
+{
+    if (!takes(m))
+        return;
+    if (FAULT(TAKEN_VALID))
+        m->valid = 1;
+    else
+        m->consumed = FAULT(TAKEN_TOGGLES) ? !m->consumed : 1;
+    take_more(m);
 }
 
 /* what the storage holds at the wake: 0 old, 1 new, 2 junk */
@@ -232,7 +275,7 @@ static void sleep_and_wake(struct machine *m, uint8_t code)
         m->backup = m->store;
     m->error = code == 2;
     m->valid = m->store.present || (FAULT(JUNK_KEEPS_VALID) && code == 2 && m->valid);
-    m->consumed = FAULT(SLEEP_KEEPS_CONSUMED) ? m->consumed : 0;
+    m->consumed = FAULT(SLEEP_KEEPS_CONSUMED) || (FAULT(SLEEP_KEEPS_TAKEN) && m->pending) ? m->consumed : 0;
     m->pending = 0;
     for (int i = 0; i < m->count; i++) {
         memset(&m->processors[i].iwkey, 0, sizeof m->processors[i].iwkey);
@@ -245,6 +288,7 @@ static void reset(struct machine *m)
 {
     struct machine old = *m;
     power_on(m, old.count, old.features);
+    m->consumed = FAULT(RESET_KEEPS_CONSUMED) ? old.consumed : 0;
     if (FAULT(RESET_KEEPS_STORE)) {
         m->backup = old.backup;
         m->store = old.store;
@@ -287,6 +331,9 @@ static void perform(struct machine *m, struct call *call, const struct instructi
     case SLEEP:
         sleep_and_wake(m, call->code);
         break;
+    case TAKEN:
+        taken(m);
+        break;
     case CPUID:
         identify(m, call, results->leaf);
         break;
@@ -295,15 +342,30 @@ static void perform(struct machine *m, struct call *call, const struct instructi
     }
 }
 
+/* refusal 1, by the same test for every call but power-on; a fault may leave it out for taken */
+static bool lent_refused(struct buffer machine, const struct call *call)
+{
+    struct machine m;
+    if (call->kind == POWER_ON)
+        return power_on_refused(machine.length, call->count, call->features);
+    if (call->kind != TAKEN || machine.length != sizeof m || !(FAULT(TAKEN_UNCHECKED) || FAULT(TAKEN_CONSUMED_2)))
+        return machine_refused(machine);
+    memcpy(&m, machine.bytes, sizeof m);
+    m.consumed = 0;
+    return !FAULT(TAKEN_UNCHECKED) && machine_refused((struct buffer){(uint8_t *)&m, sizeof m});
+}
+
 uint32_t model_call(struct buffer machine, struct call *call, const struct results *results)
 {
     struct machine m;
     struct instruction instruction = {0};
     if (FAULT(CPUID_CPU_BEFORE_MACHINE) && call->kind == CPUID && call->cpu.length != sizeof(struct cpu))
         return R4_CPU_LENGTH;
-    if (call->kind == POWER_ON ? power_on_refused(machine.length, call->count, call->features) : machine_refused(machine))
+    if (lent_refused(machine, call))
         return R1_MACHINE;
     memcpy(&m, machine.bytes, sizeof m);
+    if (FAULT(TAKEN_IDLE_REFUSED) && call->kind == TAKEN && !m.pending)
+        return R2_CODE;
     uint32_t refusal = call->kind == POWER_ON ? DONE : call_refusal(m.count, m.features, call, &instruction);
     if (refusal)
         return refusal;

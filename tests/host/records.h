@@ -62,7 +62,7 @@ struct buffer {
     size_t length;
 };
 
-enum call_kind { POWER_ON, STEP, READ, WRITE, SETTLE, SLEEP, RESET, CPUID, CALL_KINDS };
+enum call_kind { POWER_ON, STEP, READ, WRITE, SETTLE, SLEEP, RESET, TAKEN, CPUID, CALL_KINDS };
 
 /* backup registers */
 enum { COPY_STATUS = 0x990, BACKUP_STATUS = 0x991, COPY_OUT = 0xD91, COPY_IN = 0xD92 };

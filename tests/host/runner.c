@@ -17,6 +17,7 @@
 #include "prefixes.h"
 #include "probe.h"
 #include "selfcheck.h"
+#include "taken.h"
 
 /* a shorter run may miss rare events */
 enum { CALLS_FOR_COVERAGE = 200000 };
@@ -51,10 +52,12 @@ static const char *history_differs(struct emulated *emulated, const struct trial
     struct history *history = &emulated->history;
     const struct cpu *after = (const struct cpu *)library->call.cpu.bytes;
     struct judged judged;
-    if ((is_listed(t) || FAULT(HISTORY_CPUID)) && history_call(history, &t->call, instruction) != library->number)
+    bool fed = FAULT(HISTORY_CPUID) || (is_listed(t) && !(FAULT(HISTORY_TAKEN) && t->call.kind == TAKEN));
+    if (fed && history_call(history, &t->call, instruction) != library->number)
         return "history machine: which calls a refusal stops";
     if (history->calls != emulated->calls)
         return "history machine: how many calls the list has";
+    cover_listed(t, library);
     const char *differs = history_keys_differ(history, (const struct machine *)library->machine.bytes);
     if (differs || library->number || t->call.kind != STEP || instruction->form == LOADIWKEY)
         return differs;
@@ -171,7 +174,7 @@ int main(int argc, char **argv)
     fflush(stdout);
     aes_start();
     /* a planted fault has to be found by the random calls */
-    if (!planted_fault() && (!model_meets_vectors(options.vectors) || !library_meets_lengths() || !library_meets_prefixes()))
+    if (!planted_fault() && (!model_meets_vectors(options.vectors) || !library_meets_lengths() || !library_meets_prefixes() || !library_meets_taken()))
         return 2;
     trial.memory_room = calloc(1, MEMORY_ROOM);
     if (!trial.memory_room)

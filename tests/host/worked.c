@@ -49,6 +49,8 @@ static const char *wanted_differs(const struct trial *t, const struct run *libra
     const struct cpu *before = (const struct cpu *)t->call.cpu.bytes, *after = (const struct cpu *)library->call.cpu.bytes;
     if (t->call.kind == STEP && load64(after->rip) != load64(before->rip) + t->call.string.length)
         return "RIP does not stand behind the string";
+    if (wanted->machine && memcmp(library->machine.bytes, wanted->machine, sizeof *wanted->machine) != 0)
+        return "the machine is not what is wanted";
     if (wanted->xmm && memcmp(after->xmm, wanted->xmm, wanted->xmm_length) != 0)
         return "XMM0 and up do not hold what is wanted";
     return wanted->leaf && leaf_differs(&library->results, wanted->leaf) ? "CPUID gives another leaf" : NULL;

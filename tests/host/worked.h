@@ -7,8 +7,9 @@
 /* 343965-001US, chapter 6: the handle of a zero key under a zero IWKey */
 extern const uint8_t ZERO_HANDLE[48];
 
-/* what a call that is done leaves, where it is named: the bytes from XMM0 on, or CPUID's numbers */
+/* what a call that is done leaves, where it is named: the machine, the bytes from XMM0 on, or CPUID's numbers */
 struct wanted {
+    const struct machine *machine;
     const uint8_t *xmm;
     size_t xmm_length;
     const uint32_t *leaf;
