@@ -26,7 +26,7 @@ static const char help[] =
     "\n"
     "Statements (simulator/TRACES.md has them all): power-on COUNT, cpu N loadiwkey KEY, cpu N encodekey128 KEY -> NAME,\n"
     "cpu N aesenc128kl HANDLE BLOCK -> NAME, cpu N step STRING, cpu N cpuid LEAF SUBLEAF, cpu N read REGISTER,\n"
-    "cpu N write REGISTER VALUE, settle good|bad, sleep old|new|junk, reset,\n"
+    "cpu N write REGISTER VALUE, taken, settle good|bad, sleep old|new|junk, reset,\n"
     "keyring records N, keyring add LABEL HANDLE, keyring lookup LABEL -> NAME,\n"
     "expect done | refused NUMBER | zf BIT | value NUMBER | kind NUMBER | eax NUMBER | BYTES = BYTES.\n"
     "\n"

@@ -70,7 +70,22 @@ void run_reset(struct simulator *s)
     print_answer(s, "0 done: as at power-on, every IWKey zero, no backup, nothing in persistent storage");
 }
 
-/* ---- settle and sleep */
+/* ---- taken, settle and sleep */
+
+void run_taken(struct simulator *s)
+{
+    take_end(&s->line);
+    print_statement(s);
+    bool pending = machine_byte(s, KEYLOCKER_MACHINE_PENDING), consumed = machine_byte(s, KEYLOCKER_MACHINE_CONSUMED);
+    if (!answered(s, CALL_TAKEN, keylocker_taken(s->machine.data, s->machine.len)))
+        return;
+    if (!pending)
+        print_answer(s, "0 done: no backup was pending, nothing changes");
+    else if (consumed)
+        print_answer(s, "0 done: the platform has taken the backup before, nothing changes");
+    else
+        print_answer(s, "0 done: the platform has taken the backup, its storage is still at work");
+}
 
 /* A code by name or, so that a trace can see others refused, by number. */
 static uint8_t take_code(struct simulator *s, const char *const *names, uint8_t count, const char *expected)

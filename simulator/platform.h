@@ -5,6 +5,7 @@
 #include "simulator.h"
 
 void run_power_on(struct simulator *s);
+void run_taken(struct simulator *s);
 void run_settle(struct simulator *s);
 void run_sleep(struct simulator *s);
 void run_reset(struct simulator *s);

@@ -59,6 +59,7 @@ static const struct {
     {"bytes", run_bytes},
     {"iwkey", run_iwkey},
     {"memory", run_memory},
+    {"taken", run_taken},
     {"settle", run_settle},
     {"sleep", run_sleep},
     {"reset", run_reset},
@@ -83,6 +84,6 @@ void run_line(struct simulator *s, const char *text, size_t len)
         }
     }
     bad_line(&s->line,
-             "'%.*s' begins no statement; expected cpu, power-on, settle, sleep, reset, iwkey, bytes, memory, machine, keyring, expect, show or say",
+             "'%.*s' begins no statement; expected cpu, power-on, taken, settle, sleep, reset, iwkey, bytes, memory, machine, keyring, expect, show or say",
              shown(word.len), word.text);
 }

@@ -100,6 +100,7 @@ def test_random(tmp):
         summary = must(simulate(text.getvalue(), "--quiet"), 0, f"seed {seed}").stdout
         need(" 160 calls" in summary and int(re.search("(\\d+) expectations", summary)[1]) > 450, summary)
         need(re.search("step 67 f30f38d.*\nexpect done\nexpect zf 0\n", text.getvalue()), f"seed {seed}: no handle opens by a string with 67")
+        need(re.search("^taken\nexpect done\nexpect machine = .*01000001$", text.getvalue(), re.M), f"seed {seed}: no backup is taken")
 
 
 def test_random_keyrings(tmp):
@@ -117,6 +118,8 @@ WORDS = """
 power-on 17
 -- 1 the processor count or the features are not possible
 sleep old
+-- 1 these bytes are no machine; was it powered on?
+taken
 -- 1 these bytes are no machine; was it powered on?
 power-on 1
 -- 0 done: 1 processor,
@@ -173,8 +176,16 @@ cpu 0 write IA32_COPY_LOCAL_TO_PLATFORM 0
 -- 0 done: nothing is copied when 0 is written
 settle good
 -- 0 done: no backup was pending
+taken
+-- 0 done: no backup was pending
 cpu 0 write IA32_COPY_LOCAL_TO_PLATFORM 1
 -- 0 done: copy status 1, the IWKey is in the backup
+taken
+-- 0 done: the platform has taken the backup, its storage is still at work
+cpu 0 read IA32_IWKEYBACKUP_STATUS
+-- 0 done: value 8, the backup is not valid, error 0, consumed 1
+TAKEN
+-- 0 done: the platform has taken the backup before
 cpu 0 write IA32_COPY_LOCAL_TO_PLATFORM 1
 -- 0 done: copy status 0, not copied: a backup is pending
 cpu 0 loadiwkey 11*48 no-backup
@@ -300,6 +311,7 @@ BAD_LINES = [
     ("power-on 2 features", "expected kl, firmware"),
     ("power-on 2 features sgx", "not 'sgx'"),
     ("power-on 2 3", "expected the end of the line, not '3'"),
+    ("taken now", "expected the end of the line, not 'now'"),
     ("settle", "expected good, bad, or a code from 0 to 255 after 'settle'"),
     ("settle maybe", "not 'maybe'"),
     ("sleep well", "expected old, new, junk"),

@@ -157,6 +157,9 @@ class Trace:
         word = self.words.pop(0)
         return names.index(word.lower()) if word.lower() in names else number(word)
 
+    def taken(self):
+        self.machine_call(lambda: model.taken(self.machine))
+
     def settle(self):
         code = self.code(["good", "bad"])
         self.machine_call(lambda: model.settle(self.machine, code))
@@ -383,6 +386,7 @@ class Trace:
 STATEMENTS = {
     "cpu": Trace.on_cpu,
     "power-on": Trace.power_on,
+    "taken": Trace.taken,
     "settle": Trace.settle,
     "sleep": Trace.sleep,
     "reset": Trace.reset,
@@ -506,15 +510,15 @@ class RandomTrace(RandomStatements):
         return f"step {self.some('', '67 ')}{string.hex()}"
 
     def backup(self):
-        return self.some("write 0xD91 1", "write 0xD92 1", "write 0xD92 0", "write 0xD91 3", "read 0x990", "read 0x991", "read 0xD91")
+        return self.some("write 0xD91 1", "write 0xD91 1", "write 0xD92 1", "write 0xD92 0", "write 0xD91 3", "read 0x990", "read 0x991", "read 0xD91")
 
     def cpuid(self):
         leaf, subleaf = self.some("7", "0x19", "0x19", str(self.random.getrandbits(32))), self.some("", " 0", " 1", f" {self.random.getrandbits(32)}")
         return f"cpuid {leaf}{subleaf}"
 
     def call(self):
-        if self.random.random() < 0.12:
-            return self.some("settle good", "settle bad", "settle 2", "sleep old", "sleep new", "sleep junk", "sleep 3")
+        if self.random.random() < 0.18:
+            return self.some("taken", "taken", "taken", "settle good", "settle bad", "settle 2", "sleep old", "sleep new", "sleep junk", "sleep 3")
         cpl = self.some("", "", "", "", " cpl 3")
         what = self.random.choices([self.load, self.encode, self.use, self.raw, self.cpuid, self.backup], [3, 3, 8, 2, 2, 5])[0]
         return f"cpu {self.random.randrange(3) if self.random.random() < 0.98 else 3}{cpl} {what()}"
