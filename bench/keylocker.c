@@ -18,7 +18,7 @@ enum { WIDE_BLOCKS = 8, HANDLES = 64, PROCESSORS = 16 };
 
 // ENCRYPT_32 is ENCRYPT with the address-size prefix, 67.
 enum op {
-    ENCODE, ENCRYPT, DECRYPT, ENCRYPT_WIDE, DECRYPT_WIDE, LOAD, WRITE, READ, CPUID, BAD_STRING, ILLEGAL, ENCRYPT_32, OPS
+    ENCODE, ENCRYPT, DECRYPT, ENCRYPT_WIDE, DECRYPT_WIDE, LOAD, WRITE, READ, CPUID, BAD_STRING, ILLEGAL, ENCRYPT_32, TAKEN, OPS
 };
 
 static size_t blocks_of(int op) { return op == ENCRYPT_WIDE || op == DECRYPT_WIDE ? WIDE_BLOCKS : 1; }
@@ -219,6 +219,14 @@ static uint32_t repeat_cpuid(size_t reps)
     return answers;
 }
 
+static uint32_t repeat_taken(size_t reps)
+{
+    uint32_t answers = 0;
+    for (size_t i = 0; i < reps; i++)
+        answers |= keylocker_taken(machine, sizeof machine);
+    return answers;
+}
+
 static void repeat_core(const struct core *core, const struct row *row, size_t reps)
 {
     static uint8_t data[WIDE_BLOCKS * BLOCK_BYTES];
@@ -239,7 +247,7 @@ static void prepare_machine(const struct row *row)
     if (row->op == ILLEGAL) // a reserved bit
         for (int i = 0; i < HANDLES; i++)
             memory[HANDLE_BYTES * i + 4] = 1;
-    if (row->op == WRITE)
+    if (row->op == WRITE || row->op == TAKEN)
         require(keylocker_write(machine, sizeof machine, 0, 0, KEYLOCKER_COPY_LOCAL_TO_PLATFORM, 1) == KEYLOCKER_DONE,
                 "no backup");
     fill_random(cpu, 256);
@@ -256,6 +264,8 @@ static double slice_ns(int core, const struct row *row, size_t reps)
         got = repeat_registers(row, reps);
     else if (row->op == CPUID)
         got = repeat_cpuid(reps);
+    else if (row->op == TAKEN)
+        got = repeat_taken(reps);
     else
         got = repeat_steps(row, reps);
     double end = now_ns();
@@ -275,7 +285,7 @@ static const char *label_of(const struct row *row)
         [WRITE] = "write 0xD92",           [READ] = "read 0x990",
         [CPUID] = "CPUID leaf 0x19",       [BAD_STRING] = "a string refused",
         [ILLEGAL] = "AESENC%dKL, illegal handle",
-        [ENCRYPT_32] = "AESENC%dKL behind 67",
+        [ENCRYPT_32] = "AESENC%dKL behind 67", [TAKEN] = "taken",
     };
     char form[64];
     snprintf(form, sizeof form, "%s%s", names[row->op], row->count == 1 ? ", 1 processor" : "");
@@ -308,7 +318,7 @@ int main(void)
         {.op = LOAD, .alone = true},       {.op = WRITE, .alone = true},
         {.op = READ, .alone = true},       {.op = CPUID, .alone = true},
         {.op = BAD_STRING, .alone = true}, {.op = BAD_STRING, .alone = true, .count = 1},
-        {.op = ENCRYPT_32, .alone = true},
+        {.op = ENCRYPT_32, .alone = true}, {.op = TAKEN, .alone = true},
     };
     size_t count = sizeof rows / sizeof *rows, other = sizeof others / sizeof *others;
 
