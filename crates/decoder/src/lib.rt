@@ -213,7 +213,7 @@ fn lock_from(s: &[u8], step: Step) -> Decoded
             }
             address_size_from(s, false, step)
         }
-        Step::End => Decoded::EndOfString,
+        Step::End => Decoded::Empty,
     }
 }
 

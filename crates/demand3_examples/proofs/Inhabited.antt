@@ -35,7 +35,7 @@ use Rattle.model.specs.declared.IwKey.{IwKey}
 use Rattle.model.specs.declared.Machine.{Machine}
 use Rattle.model.proofs.Frames.{by-number}
 use Rattle.model.proofs.Demand3.{answer-at, demand-3}
-use Rattle.model.proofs.Computed.{two, load, out, into, settling, sleeping}
+use Rattle.model.proofs.Computed.{two, load, idle, out, into, settling, sleeping}
 use Rattle.model.proofs.Examples.{spelled, spelled-eq}
 
 -- ---- lists that end in a use of a handle encoded in them
@@ -220,7 +220,7 @@ oldStore = by (0xF3 ∷ 0x44 ∷ 0x0F ∷ 0x38 ∷ 0xDC ∷ 0x38 ∷ []) Aes128 
 -- AESENCWIDE128KL [rax]
 abbrev newStore : Case
 newStore =
-    by (0xF3 ∷ 0x0F ∷ 0x38 ∷ 0xD8 ∷ 0x00 ∷ []) Aes128 (0 ∷ 1 ∷ 2 ∷ 3 ∷ 4 ∷ 5 ∷ 6 ∷ 7 ∷ []) 0 (out 0 ∷ taken ∷ sleeping 1 ∷ into 0 ∷ []) 0
+    by (0xF3 ∷ 0x0F ∷ 0x38 ∷ 0xD8 ∷ 0x00 ∷ []) Aes128 (0 ∷ 1 ∷ 2 ∷ 3 ∷ 4 ∷ 5 ∷ 6 ∷ 7 ∷ []) 0 (out 0 ∷ taken ∷ idle ∷ sleeping 1 ∷ into 0 ∷ []) 0
 
 -- AESENC256KL xmm0, [rax]
 abbrev otherSize : Case

@@ -256,5 +256,6 @@ pub fn print_decoded(d: Decoded) {
         }
         Decoded::BadByte => print(b"refused 8\n"),
         Decoded::EndOfString => print(b"refused 9\n"),
+        Decoded::Empty => print(b"idle ; 0 bytes\n"),
     }
 }

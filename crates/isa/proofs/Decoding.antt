@@ -40,6 +40,7 @@ abbrev pub endOf : Decoded → Option ℕ
 endOf (decoded.Found what lock next) = some next
 endOf decoded.BadByte = none
 endOf decoded.EndOfString = none
+endOf decoded.Empty = none
 
 nothing : {n : ℕ} {A : Type 0} → none ≡ some n → A
 nothing {n} e = absurd (Option·none-ne-some n e)

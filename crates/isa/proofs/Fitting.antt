@@ -102,6 +102,7 @@ abbrev pub OnFound : Decoded → Type 0
 OnFound (decoded.Found what lock next) = Fits what
 OnFound decoded.BadByte = Unit {0}
 OnFound decoded.EndOfString = Unit {0}
+OnFound decoded.Empty = Unit {0}
 
 module _ (lock : Bool) (op m : ℕ) where
   built-memory : (o : Operands) → leb 0xFA op ≡ false → leb 0xC0 m ≡ false → OnOperands InMemory o → OnFound (built lock op m o)
@@ -143,7 +144,7 @@ encode-register op m a b = go (leb 0xFA op) refl where
 
 -- ---- byte by byte
 
--- what holds of the two refusals, and of all that is decoded from ModRM on, holds of every string
+-- what holds of the two refusals, and of all that is decoded from ModRM on, holds of every string that has a byte
 module _ (s : List ℕ) (P : Decoded → Type 0) (bad : P decoded.BadByte) (ended : P decoded.EndOfString)
     (modrm : (p : Prefixes) (op at : ℕ) → P (modrmFrom s p op (byteAt s at))) where
   on-opcode : (p : Prefixes) (z : Step) → P (opcodeFrom s p z)
@@ -171,13 +172,17 @@ module _ (s : List ℕ) (P : Decoded → Type 0) (bad : P decoded.BadByte) (ende
   on-size lock (step.Byte b next) = on-cond P (eqb b 0x67) _ _ (λ e. on-rep lock Bits32 (byteAt s next)) (λ e. on-rep lock Bits64 (step.Byte b next))
   on-size lock step.End = ended
 
-  on-lock : (z : Step) → P (lockFrom s z)
-  on-lock (step.Byte b next) = on-cond P (eqb b 0xF0) _ _ (λ e. on-size true (byteAt s next)) (λ e. on-size false (step.Byte b next))
-  on-lock step.End = ended
+  pub on-first : (b next : ℕ) → P (lockFrom s (step.Byte b next))
+  on-first b next = on-cond P (eqb b 0xF0) _ _ (λ e. on-size true (byteAt s next)) (λ e. on-size false (step.Byte b next))
 
-  on-string : (at : ℕ) → P (decodeAt s at)
+  -- and of every string, if of none at all
+  on-string : P decoded.Empty → (at : ℕ) → P (decodeAt s at)
   unfolding decodeAt
-  on-string at = on-lock (byteAt s at)
+  on-string empty at = go (byteAt s at)
+    where
+      go : (z : Step) → P (lockFrom s z)
+      go (step.Byte b next) = on-first b next
+      go step.End = empty
 
 -- ---- every string of bytes
 
@@ -195,7 +200,7 @@ module _ (s : List ℕ) (bytes : Bytes s) where
   on-modrm p op step.End l = tt
 
   pub decoded-fits : (at : ℕ) → OnFound (decodeAt s at)
-  decoded-fits = on-string s OnFound tt tt (λ p op at. on-modrm p op (byteAt s at) (read-byte s at bytes))
+  decoded-fits = on-string s OnFound tt tt (λ p op at. on-modrm p op (byteAt s at) (read-byte s at bytes)) tt
 
 -- ---- every list of numbers: the block of a use is a register
 
@@ -206,6 +211,7 @@ OnBlock (decoded.Found (instruction.LoadIwKey l) lock next) = Unit {0}
 OnBlock (decoded.Found (instruction.EncodeKey e) lock next) = Unit {0}
 OnBlock decoded.BadByte = Unit {0}
 OnBlock decoded.EndOfString = Unit {0}
+OnBlock decoded.Empty = Unit {0}
 
 abbrev Any : Operand → Type 0
 Any o = Unit {0}
@@ -243,4 +249,4 @@ module _ (s : List ℕ) where
   block-modrm p op step.End = tt
 
   pub block-fits : (at : ℕ) → OnBlock (decodeAt s at)
-  block-fits = on-string s OnBlock tt tt (λ p op at. block-modrm p op (byteAt s at))
+  block-fits = on-string s OnBlock tt tt (λ p op at. block-modrm p op (byteAt s at)) tt

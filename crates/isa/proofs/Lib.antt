@@ -3,6 +3,7 @@ pub mod Ranges
 pub mod Local
 pub mod Decoding
 pub mod Fitting
+pub mod Empty
 pub mod Widths
 pub mod Prefix
 pub mod Examples

@@ -48,6 +48,7 @@ module _ (size : AddressSize) where
   sizedDecoded (decoded.Found what lock next) = decoded.Found (sizedInstruction what) lock next
   sizedDecoded decoded.BadByte = decoded.BadByte
   sizedDecoded decoded.EndOfString = decoded.EndOfString
+  sizedDecoded decoded.Empty = decoded.Empty
 
   abbrev sizedOperands : Operands → Operands
   sizedOperands (operands.Found reg rm next) = operands.Found reg (sizedOperand rm) next

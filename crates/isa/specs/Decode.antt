@@ -1,5 +1,5 @@
--- Instruction strings (the scope, "Instruction strings", and change request (ii); Intel 343965-001US chapter 3; SDM volume 2, 2.1.1, 2.1.5 and 2.2.1):
--- optional F0, optional 67, then F3, at most one REX byte, 0F 38, opcode, ModRM, SIB and displacement, read left to right.
+-- Instruction strings (the scope, "Instruction strings", and change requests (ii) and (vi); Intel 343965-001US chapter 3; SDM volume 2, 2.1.1, 2.1.5 and
+-- 2.2.1): optional F0, optional 67, then F3, at most one REX byte, 0F 38, opcode, ModRM, SIB and displacement, read left to right; or no byte at all.
 -- Assumes nothing.
 use mathlib.Core.Bool.{Bool, true, false, cond, _&&_, _||_}
 use mathlib.Core.List.{List, [], _∷_}
@@ -169,10 +169,10 @@ abbrev pub addressSizeFrom : List ℕ → Bool → Step → Decoded
 addressSizeFrom s lock (step.Byte b next) = cond (eqb b 0x67) (repFrom s lock Bits32 (byteAt s next)) (repFrom s lock Bits64 (step.Byte b next))
 addressSizeFrom s lock step.End = decoded.EndOfString
 
--- from F0, or what stands in its place, on
+-- from F0, or what stands in its place, on; change request (vi): an idle tick has no string, and so no byte here
 abbrev pub lockFrom : List ℕ → Step → Decoded
 lockFrom s (step.Byte b next) = cond (eqb b 0xF0) (addressSizeFrom s true (byteAt s next)) (addressSizeFrom s false (step.Byte b next))
-lockFrom s step.End = decoded.EndOfString
+lockFrom s step.End = decoded.Empty
 
 -- the instruction at a position of a string
 unfoldable pub decodeAt : List ℕ → ℕ → Decoded

@@ -109,7 +109,8 @@ pub enum Operands {
     End,
 }
 
-// An instruction, LOCK seen or not, and the position behind it; or a byte that no instruction has there; or the string's end inside an instruction.
+// An instruction, LOCK seen or not, and the position behind it; or a byte that no instruction has there; or the string's end inside an instruction; or no byte
+// at all.
 pub enum Decoded {
     Found {
         what: Instruction,
@@ -118,4 +119,5 @@ pub enum Decoded {
     },
     BadByte,
     EndOfString,
+    Empty,
 }

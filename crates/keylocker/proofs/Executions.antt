@@ -9,21 +9,25 @@ use lib.Dec.{eqb}
 use lib.ListN.{length, getD}
 use borrow.Author.Tests.{eqb-true, eq-eqb}
 use Rattle.bits.proofs.Choice.{cond-on, on-cond}
-use Rattle.model.specs.Calls.{PowerOn, ReadCall, WriteCall, Call, step, read, write, settle, sleep, reset, taken, Answer}
+use Rattle.model.specs.Calls.{PowerOn, StepCall, ReadCall, WriteCall, Call, step, read, write, settle, sleep, reset, taken, Answer}
 use Rattle.model.specs.Refusals.{first}
-use Rattle.model.specs.Execution.{powerOn, Run}
+use Rattle.model.specs.Execution.{powerOn, Run, run}
 use Rattle.model.specs.History.{nameAt, history}
 use Rattle.model.specs.Demand3.{held, Demand3}
 use Rattle.model.specs.Status.{StatusRegisters, ruleCalls, OperatorRule}
-use Rattle.model.specs.Taken.{struck, TakenUnseen}
+use Rattle.model.specs.Struck.{struck}
+use Rattle.model.specs.Taken.{isTaken, TakenUnseen}
+use Rattle.model.specs.Idle.{isIdle, IdleUnseen}
 use Rattle.model.specs.Layout.{machineSize, machineBytes, machineAt}
 use Rattle.model.specs.Lent.{Lent, into, wrongSize, powerOnLent, callLent, runLent}
 use Rattle.model.specs.Records.{zeroKey}
 use Rattle.model.specs.declared.IwKey.{IwKey}
-use Rattle.model.proofs.Lent.{power-on-lent, demand-3-lent, status-registers-lent, taken-unseen-lent}
+use Rattle.model.proofs.Lent.{power-on-lent, run-on, demand-3-lent, status-registers-lent}
 use Rattle.model.proofs.Operator.{operator-rule}
+use Rattle.model.proofs.Taken.{taken-unseen}
+use Rattle.model.proofs.Idle.{idle-lent, idle-unseen}
 use Rattle.keylocker.specs.Meaning.{called}
-use Rattle.keylocker.specs.Promises.{answer, gave, PowerOnPromise, ReadPromise}
+use Rattle.keylocker.specs.Promises.{answer, gave, PowerOnPromise, StepPromise, ReadPromise}
 use Rattle.keylocker.specs.Executions.{Chain, ended, stepped, didRead, wrote, settled, slept, wasReset, wasTaken, Execution}
 use Rattle.keylocker.proofs.Finishing.{power-on-promised, cpuOf, valueOf, answer-as, promised, read-block, read-value, read-promised}
 
@@ -79,6 +83,12 @@ module _ (p : PowerOn) (calls : List Call) (r : Run) (x : Execution p calls r) w
   lent-run : runLent (powerOnLent (x .lent) p .block) calls ≡ r
   lent-run = ap (λ (b : List ℕ). runLent b calls) (power-on-lent (x .lent) p powered .1) ∙ execution-run
 
+  accepted : powerOn p .answer .number ≡ 0
+  accepted = power-on-lent (x .lent) p powered .2
+
+  model-run : run (powerOn p .machine) calls ≡ r
+  model-run = sym (run-on (x .lent) p powered calls) ∙ lent-run
+
   pub demand-3-c : Demand3 p calls r
   demand-3-c = subst (Demand3 p calls) lent-run (demand-3-lent (x .lent) p powered calls)
 
@@ -94,15 +104,26 @@ pub operator-rule-c : (p : PowerOn) (r : Run) (xs : List Call) (w : WriteCall) (
 operator-rule-c p r xs w c ys v x o =
     let calls = ruleCalls xs w c ys v in operator-rule p r xs w c ys v (demand-3-c p calls r x) (status-registers-c p calls r x) o
 
--- an execution of the calls, and one with every `taken` struck out
-pub taken-unseen-c : (p : PowerOn) (calls : List Call) (r s : Run) → Execution p calls r → Execution p (struck calls) s → TakenUnseen p calls r s
-taken-unseen-c p calls r s x y =
-    let on = power-on-lent (x .lent) p (powered p calls r x) .1 in
-    let without : runLent (powerOnLent (x .lent) p .block) (struck calls) ≡ s =
-    ap (λ (b : List ℕ). runLent b (struck calls)) on ∙ execution-run p (struck calls) s y in
-    subst (TakenUnseen p calls r) without
-    (subst (λ (z : Run). TakenUnseen p calls z (runLent (powerOnLent (x .lent) p .block) (struck calls))) (lent-run p calls r x)
-    (taken-unseen-lent (x .lent) p (powered p calls r x) calls))
+-- what holds of every list of calls and the list without some of them, of an execution of each
+module _ (p : PowerOn) (calls : List Call) (r s : Run) (out : Call → Bool) (x : Execution p calls r) (y : Execution p (struck out calls) s) where
+  both : (P : Run → Run → Type 0)
+      → (powerOn p .answer .number ≡ 0 → P (run (powerOn p .machine) calls) (run (powerOn p .machine) (struck out calls))) → P r s
+  both P h =
+      subst (P r) (model-run p (struck out calls) s y)
+      (subst (λ (z : Run). P z (run (powerOn p .machine) (struck out calls))) (model-run p calls r x) (h (accepted p calls r x)))
+
+-- with every `taken` struck out
+pub taken-unseen-c : (p : PowerOn) (calls : List Call) (r s : Run) → Execution p calls r → Execution p (struck isTaken calls) s → TakenUnseen p calls r s
+taken-unseen-c p calls r s x y = both p calls r s isTaken x y (TakenUnseen p calls) (λ ok. taken-unseen p ok calls)
+
+-- with every idle step struck out
+pub idle-unseen-c : (p : PowerOn) (calls : List Call) (r s : Run) → Execution p calls r → Execution p (struck isIdle calls) s → IdleUnseen p calls r s
+idle-unseen-c p calls r s x y = both p calls r s isIdle x y (IdleUnseen p calls) (λ ok. idle-unseen p ok calls)
+
+-- the block and the CPU record after an idle step, refused or not
+pub idle-kept-c : (before after cpu : List ℕ) (s : StepCall) (number : ℕ) → StepPromise before s after cpu number → s .string ≡ []
+    → (after ≡ before) × (cpu ≡ s .cpu)
+idle-kept-c before after cpu s number h e = let x = h ∙ idle-lent s e before in (λ j. x j .block, λ j. x j .answer .cpu)
 
 -- ---- one execution, and no other
 

@@ -18,7 +18,9 @@ use Rattle.model.specs.Execution.{run, powerOn}
 use Rattle.model.specs.History.{History, copiedOut, settledNames, moved, history}
 use Rattle.model.specs.Demand3.{Holding, held, named, given}
 use Rattle.model.specs.Status.{copyStatus, backedUp}
-use Rattle.model.specs.Taken.{struck}
+use Rattle.model.specs.Struck.{struck}
+use Rattle.model.specs.Taken.{isTaken}
+use Rattle.model.specs.Idle.{isIdle}
 use Rattle.model.specs.Examples.{rax, onProcessor, loadIwKey}
 use Rattle.model.specs.declared.IwKey.{IwKey}
 use Rattle.model.specs.declared.Processor.{Processor}
@@ -32,6 +34,10 @@ two = record { count = 2; features = 63 }
 -- LOADIWKEY on a processor, with sixteen x in XMM0 and this EAX
 abbrev pub load : ℕ → ℕ → List ℕ → ℕ → Call
 load p eax random x = step (onProcessor p (withXmm 0 (replicate 16 x) (rax eax)) 0 random loadIwKey)
+
+-- the empty string, with the EAX of a load that has NoBackup
+abbrev pub idle : Call
+idle = step (onProcessor 0 (rax 1) 0 [] [])
 
 abbrev pub out : ℕ → Call
 out p = write (record { processor = p; cpl = 0; address = 0xD91; value = 1 })
@@ -108,6 +114,8 @@ lines =
     -- taken, while pending and not
     ∷ line (pending ++ taken ∷ []) 4 0 (some 4) (some 1) 1 1 0 false
     ∷ line (stored ++ taken ∷ []) 1 0 (some 1) (some 1) 0 1 0 true
+    -- idle steps: counted, and nothing else
+    ∷ line (idle ∷ pending ++ idle ∷ []) 5 0 (some 5) (some 2) 1 1 0 false
     -- reset
     ∷ line (stored ++ reset ∷ []) 0 0 none none 0 0 0 false
     ∷ []
@@ -119,10 +127,14 @@ pub names-computed : map (λ l. left (l .calls)) lines ≡ map (λ l. l .left) l
 unfolding refusal tests moved copiedOut settledNames decodeAt modrmOf instructionOf
 names-computed = refl
 
--- every `taken` is struck out, and nothing else
-pub struck-computed : struck (out 0 ∷ taken ∷ taken ∷ settling 0 ∷ sleeping 1 ∷ reset ∷ load 0 0 [] 1 ∷ taken ∷ [])
-    ≡ out 0 ∷ settling 0 ∷ sleeping 1 ∷ reset ∷ load 0 0 [] 1 ∷ []
-struck-computed = refl
+-- every `taken`, and every idle step, is struck out, and nothing else
+pub taken-struck : struck isTaken (out 0 ∷ taken ∷ taken ∷ idle ∷ settling 0 ∷ sleeping 1 ∷ reset ∷ load 0 0 [] 1 ∷ taken ∷ [])
+    ≡ out 0 ∷ idle ∷ settling 0 ∷ sleeping 1 ∷ reset ∷ load 0 0 [] 1 ∷ []
+taken-struck = refl
+
+pub idle-struck : struck isIdle (out 0 ∷ idle ∷ idle ∷ taken ∷ settling 0 ∷ sleeping 1 ∷ reset ∷ load 0 0 [] 1 ∷ idle ∷ [])
+    ≡ out 0 ∷ taken ∷ settling 0 ∷ sleeping 1 ∷ reset ∷ load 0 0 [] 1 ∷ []
+idle-struck = refl
 
 -- which numbers of calls are names: 0, and that of a load; not that of a write, a load that is not ready, a refused one, or past the end
 pub given-computed : map (given two (load 0 0 [] 1 ∷ out 0 ∷ load 0 2 [] 2 ∷ load 2 0 [] 3 ∷ [])) (0 ∷ 1 ∷ 2 ∷ 3 ∷ 4 ∷ 5 ∷ [])

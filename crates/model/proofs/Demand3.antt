@@ -56,6 +56,7 @@ encode-cases Q f = step-only (λ s. encodeIn s (decode (s .string))) Q (λ s e q
         subst (λ (x : Encode). Q (step s) x) (Option·some-injective (encodeMade s i) e q) (f s i lock bytes r)
     go s e decoded.BadByte r q = absurd (Option·none-ne-some e q)
     go s e decoded.EndOfString r q = absurd (Option·none-ne-some e q)
+    go s e decoded.Empty r q = absurd (Option·none-ne-some e q)
 
 -- a property of every call that is a use
 use-cases : (Q : Call → UseMade → Type 0)
@@ -74,6 +75,7 @@ use-cases Q g = step-only (λ s. useIn s (decode (s .string))) Q (λ s u q. go s
     go s u (decoded.Found what lock bytes) r q = found s u what lock bytes r (formOf what) refl q
     go s u decoded.BadByte r q = absurd (Option·none-ne-some u q)
     go s u decoded.EndOfString r q = absurd (Option·none-ne-some u q)
+    go s u decoded.Empty r q = absurd (Option·none-ne-some u q)
 
 -- the CPU record after an instruction that was decoded
 executed-cpu : (s : StepCall) (k : IwKey) (what : Instruction) (lock : Bool) (bytes : ℕ) → decode (s .string) ≡ decoded.Found what lock bytes

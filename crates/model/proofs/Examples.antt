@@ -1,4 +1,4 @@
--- The scope, "Twelve settled examples": K1 to K12 hold; so do those of change request (ii).
+-- The scope, "Twelve settled examples": K1 to K12 hold; so do those of change requests (ii), (v) and (vi).
 -- Assumes nothing.
 use mathlib.Core.Path.{_≡_, refl, ap}
 use mathlib.Core.List.{List, [], _∷_}
@@ -25,7 +25,7 @@ use Rattle.model.specs.Instructions.{encoded, openedFor, aes, ciphered, 
 use Rattle.model.specs.Backup.{copyOut, settled, withTaken, woken}
 use Rattle.model.specs.Execution.{perform, call}
 use Rattle.model.specs.declared.IwKey.{IwKey}
-use Rattle.model.specs.Examples.{AllFulfilled, rax, rip, cpu, randomKey, xmm3Cpu, examples, addressSizeExamples, takenExamples}
+use Rattle.model.specs.Examples.{AllFulfilled, rax, rip, cpu, randomKey, xmm3Cpu, examples, addressSizeExamples, takenExamples, idleExamples}
 use Rattle.model.proofs.Uses.{aes-length}
 
 -- ---- the examples that encode: what is seen of them does not depend on the tag and the ciphertext
@@ -100,7 +100,7 @@ all-hold =
     -- K6
     (refl, refl) also (refl, tt) also
     -- K7
-    (refl, tt) also
+    (refl, refl) also
     -- K8
     (refl, k8) also (refl, tt) also
     -- K9
@@ -145,4 +145,14 @@ taken-hold =
     (refl, refl) also (refl, refl) also
     (refl, refl) also (refl, refl) also (refl, refl) also (refl, refl) also
     (refl, refl) also
+    tt
+
+pub idle-hold : AllFulfilled idleExamples
+unfolding call valid validProcessors refusal tests perform executed loadedKey
+    decodeAt modrmOf sibOf indexOf displacementAt displacement32 instructionOf
+idle-hold =
+    -- done
+    (refl, refl) also (refl, refl) also (refl, refl) also (refl, refl) also (refl, refl) also
+    -- refused
+    (refl, tt) also (refl, tt) also (refl, tt) also (refl, tt) also (refl, tt) also (refl, tt) also
     tt

@@ -30,15 +30,20 @@ use Rattle.model.specs.declared.Machine.{Machine}
 
 -- ---- what only a step has
 
+pub by-step : {A : Type 0} (f : StepCall → A) (d : A) (Q : Call → A → Type 0) → ((s : StepCall) → Q (step s) (f s)) → ((c : Call) → Q c d)
+    → (c : Call) → Q c (onStep f d c)
+by-step f d Q g h (step s) = g s
+by-step f d Q g h (read r) = h (read r)
+by-step f d Q g h (write w) = h (write w)
+by-step f d Q g h (settle s) = h (settle s)
+by-step f d Q g h (sleep s) = h (sleep s)
+by-step f d Q g h reset = h reset
+by-step f d Q g h taken = h taken
+
 pub step-only : {A : Type 0} (f : StepCall → Option A) (Q : Call → A → Type 0) → ((s : StepCall) (x : A) → _≡_ {A = Option A} (f s) (some x) → Q (step s) x)
     → (c : Call) (x : A) → _≡_ {A = Option A} (onStep f none c) (some x) → Q c x
-step-only f Q g (step s) x q = g s x q
-step-only f Q g (read r) x q = absurd (Option·none-ne-some x q)
-step-only f Q g (write w) x q = absurd (Option·none-ne-some x q)
-step-only f Q g (settle s) x q = absurd (Option·none-ne-some x q)
-step-only f Q g (sleep s) x q = absurd (Option·none-ne-some x q)
-step-only f Q g reset x q = absurd (Option·none-ne-some x q)
-step-only f Q g taken x q = absurd (Option·none-ne-some x q)
+step-only {A} f Q g c x =
+    by-step f none (λ c (o : Option A). _≡_ {A = Option A} o (some x) → Q c x) (λ s q. g s x q) (λ c q. absurd (Option·none-ne-some x q)) c
 
 -- ---- a call is refused or performed
 
@@ -109,6 +114,7 @@ executed-key s k = go (decode (s .string))
     go (decoded.Found (instruction.EncodeKey e) lock bytes) = refl
     go decoded.BadByte = refl
     go decoded.EndOfString = refl
+    go decoded.Empty = refl
 
 module _ (m : Machine) (s : StepCall) where
   abbrev entry : Processor

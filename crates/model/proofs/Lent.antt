@@ -13,7 +13,6 @@ use Rattle.model.specs.Calls.{PowerOn, Call, lentCpu, Outcome}
 use Rattle.model.specs.Execution.{powerOn, call, Run, run}
 use Rattle.model.specs.Demand3.{Demand3}
 use Rattle.model.specs.Status.{StatusRegisters}
-use Rattle.model.specs.Taken.{struck, TakenUnseen}
 use Rattle.model.specs.Layout.{machineSize, machineBytes, machineAt, Shaped}
 use Rattle.model.specs.Lent.{Lent, into, wrongSize, powerOnLent, callLent, runLent}
 use Rattle.model.specs.declared.Machine.{Machine}
@@ -23,7 +22,6 @@ use Rattle.model.proofs.Shapes.{fresh-shaped, call-shaped}
 use Rattle.model.proofs.Validities.{power-on-valid}
 use Rattle.model.proofs.Demand3.{demand-3}
 use Rattle.model.proofs.Registers.{status-registers}
-use Rattle.model.proofs.Taken.{taken-unseen}
 
 -- ---- a refused call
 
@@ -78,7 +76,7 @@ module _ (block : List ℕ) (p : PowerOn) (ok : powerOnLent block p .answer .num
   powered : powerOn p .answer .number ≡ 0
   powered = power-on-lent block p ok .2
 
-  run-on : (calls : List Call) → runLent (powerOnLent block p .block) calls ≡ run (powerOn p .machine) calls
+  pub run-on : (calls : List Call) → runLent (powerOnLent block p .block) calls ≡ run (powerOn p .machine) calls
   run-on calls =
       let shaped : Shaped (powerOn p .machine) = subst Shaped (sym (power-on-valid p powered .0)) (fresh-shaped (p .count) (p .features)) in
       ap (λ (t : List ℕ). runLent t calls) (power-on-lent block p ok .1) ∙ run-lent calls (powerOn p .machine) shaped
@@ -88,9 +86,3 @@ module _ (block : List ℕ) (p : PowerOn) (ok : powerOnLent block p .answer .num
 
   pub status-registers-lent : (calls : List Call) → StatusRegisters p calls (runLent (powerOnLent block p .block) calls)
   status-registers-lent calls = subst (StatusRegisters p calls) (sym (run-on calls)) (status-registers p powered calls)
-
-  pub taken-unseen-lent : (calls : List Call)
-      → TakenUnseen p calls (runLent (powerOnLent block p .block) calls) (runLent (powerOnLent block p .block) (struck calls))
-  taken-unseen-lent calls =
-      subst (λ (s : Run). TakenUnseen p calls (runLent (powerOnLent block p .block) calls) s) (sym (run-on (struck calls)))
-      (subst (λ (r : Run). TakenUnseen p calls r (run (powerOn p .machine) (struck calls))) (sym (run-on calls)) (taken-unseen p powered calls))

@@ -12,10 +12,12 @@ pub mod Corollaries
 pub mod Status
 pub mod Registers
 pub mod Operator
+pub mod Struck
 pub mod Taken
 pub mod Bytes
 pub mod Shapes
 pub mod InPlace
 pub mod Lent
+pub mod Idle
 pub mod Examples
 pub mod Computed

@@ -130,6 +130,7 @@ module _ (s : StepCall) (n : length (s .cpu) ≡ cpuSize) (r : randomLength (len
   stepped-shaped (decoded.Found what lock bytes) = execute-shaped what bytes
   stepped-shaped decoded.BadByte = h
   stepped-shaped decoded.EndOfString = h
+  stepped-shaped decoded.Empty = h
 
   executed-shaped : ShapedKey (executed s k .key)
   unfolding executed

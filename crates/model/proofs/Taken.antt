@@ -1,7 +1,7 @@
 -- What `taken` changes for the calls behind it: consumed and bit 3 of 0x991 while a backup is pending, and nothing else.
 -- Assumes nothing.
 use mathlib.Core.Path.{_≡_, _∙_, refl, sym, ap, subst}
-use mathlib.Core.Bool.{Bool, true, false, cond, not, _||_, or-true}
+use mathlib.Core.Bool.{Bool, true, false, cond, not, _||_, or-true, true≢false}
 use mathlib.Core.List.{List, [], _∷_, _++_}
 use mathlib.Core.Logic.{_⊎_, inl, inr}
 use Prim.Native.Nat.{ℕ, _+_, _*_, _%_, _<_}
@@ -18,14 +18,16 @@ use Rattle.model.specs.Refusals.{noRegisters, refusal}
 use Rattle.model.specs.Backup.{Copied, copyOut, copyIn, written, registerRead, settled, withTaken, woken}
 use Rattle.model.specs.Execution.{powerOn, viewOf, refused, perform, numberOf, call, run}
 use Rattle.model.specs.Demand3.{answerAt}
-use Rattle.model.specs.Taken.{isTaken, struck, Alike, AnsweredAlike, TakenUnseen}
+use Rattle.model.specs.Struck.{struck}
+use Rattle.model.specs.Taken.{isTaken, Alike, AnsweredAlike, TakenUnseen}
 use Rattle.model.specs.declared.Processor.{Processor}
 use Rattle.model.specs.declared.Platform.{Platform}
 use Rattle.model.specs.declared.Machine.{Machine}
 use Rattle.model.proofs.Refusals.{taken-refusal, no-register-fault}
 use Rattle.model.proofs.Frames.{call-performed, call-stopped, by-number, accepted-parts}
 use Rattle.model.proofs.Validities.{status-flags, valid-number, call-valid}
-use Rattle.model.proofs.Demand3.{answer-at, holds, power-on-holds}
+use Rattle.model.proofs.Demand3.{holds, power-on-holds}
+use Rattle.model.proofs.Struck.{struck-answers, struck-run}
 
 -- ---- while a backup is pending no call but a read asks consumed
 
@@ -260,43 +262,30 @@ module _ (m n : Machine) where
 
 -- ---- lists
 
-alike-run : (m n : Machine) → Alike m n → (calls : List Call) → Alike (run m calls .machine) (run n (struck calls) .machine)
-alike-run m n h [] = h
-alike-run m n h (step s ∷ l) = alike-run _ _ (call-alike m n h (step s)) l
-alike-run m n h (read r ∷ l) = alike-run _ _ (call-alike m n h (read r)) l
-alike-run m n h (write w ∷ l) = alike-run _ _ (call-alike m n h (write w)) l
-alike-run m n h (settle s ∷ l) = alike-run _ _ (call-alike m n h (settle s)) l
-alike-run m n h (sleep s ∷ l) = alike-run _ _ (call-alike m n h (sleep s)) l
-alike-run m n h (reset ∷ l) = alike-run _ _ (call-alike m n h reset) l
-alike-run m n h (taken ∷ l) = alike-run _ _ (taken-alike m n h) l
-
-struck-at : (xs : List Call) (c : Call) (ys : List Call) → isTaken c ≡ false → struck (xs ++ c ∷ ys) ≡ struck xs ++ c ∷ struck ys
-struck-at [] c ys e = cond-off e (struck ys) (c ∷ struck ys)
-struck-at (x ∷ xs) c ys e = ap (λ (l : List Call). cond (isTaken x) l (x ∷ l)) (struck-at xs c ys e) ∙ go (isTaken x)
-  where
-    go : (t : Bool)
-        → cond t (struck xs ++ c ∷ struck ys) (x ∷ struck xs ++ c ∷ struck ys) ≡ cond t (struck xs) (x ∷ struck xs) ++ c ∷ struck ys
-    go true = refl
-    go false = refl
+struck-alike : (m n : Machine) → Alike m n → (c : Call) → isTaken c ≡ true → Alike (call m c .machine) n
+struck-alike m n h (step s) e = absurd (true≢false (sym e))
+struck-alike m n h (read r) e = absurd (true≢false (sym e))
+struck-alike m n h (write w) e = absurd (true≢false (sym e))
+struck-alike m n h (settle s) e = absurd (true≢false (sym e))
+struck-alike m n h (sleep s) e = absurd (true≢false (sym e))
+struck-alike m n h reset e = absurd (true≢false (sym e))
+struck-alike m n h taken e = taken-alike m n h
 
 -- from any machine
-module _ (m : Machine) (calls : List Call) where
-  pub machine-unseen : Alike (run m calls .machine) (run m (struck calls) .machine)
-  machine-unseen = alike-run m m (inl refl) calls
+module _ (m : Machine) where
+  pub machine-unseen : (calls : List Call) → Alike (run m calls .machine) (run m (struck isTaken calls) .machine)
+  machine-unseen = struck-run isTaken Alike call-alike struck-alike m m (inl refl)
 
-  pub answers-unseen : (xs : List Call) (c : Call) (ys : List Call) → calls ≡ xs ++ c ∷ ys → isTaken c ≡ false
-      → AnsweredAlike c (run m xs .machine .platform .pending) (answerAt (run m calls) (length xs)) (answerAt (run m (struck calls)) (length (struck xs)))
-  answers-unseen xs c ys split e =
-      let with′ = ap (λ (l : List Call). answerAt (run m l) (length xs)) split ∙ answer-at m xs c ys in
-      let without =
-      ap (λ (l : List Call). answerAt (run m l) (length (struck xs))) (ap struck split ∙ struck-at xs c ys e) ∙ answer-at m (struck xs) c (struck ys) in
-      subst (λ (a : Answer). AnsweredAlike c (run m xs .machine .platform .pending) a (answerAt (run m (struck calls)) (length (struck xs)))) (sym with′)
-      (subst (AnsweredAlike c (run m xs .machine .platform .pending) (call (run m xs .machine) c .answer)) (sym without)
-      (answered-alike (run m xs .machine) (run m (struck xs) .machine) (alike-run m m (inl refl) xs) c))
+  pub answers-unseen : (calls xs : List Call) (c : Call) (ys : List Call) → calls ≡ xs ++ c ∷ ys → isTaken c ≡ false
+      → AnsweredAlike c (run m xs .machine .platform .pending) (answerAt (run m calls) (length xs))
+      (answerAt (run m (struck isTaken calls)) (length (struck isTaken xs)))
+  answers-unseen calls xs c ys split e =
+      struck-answers isTaken (AnsweredAlike c (run m xs .machine .platform .pending)) m calls xs c ys split e
+      (answered-alike (run m xs .machine) (run m (struck isTaken xs) .machine) (machine-unseen xs) c)
 
 -- from a power-on
 pub taken-unseen : (p : PowerOn) → powerOn p .answer .number ≡ 0 → (calls : List Call)
-    → TakenUnseen p calls (run (powerOn p .machine) calls) (run (powerOn p .machine) (struck calls))
+    → TakenUnseen p calls (run (powerOn p .machine) calls) (run (powerOn p .machine) (struck isTaken calls))
 taken-unseen p ok calls =
     let m = powerOn p .machine in
     record {
@@ -304,6 +293,6 @@ taken-unseen p ok calls =
       answers =
           λ xs c ys split e.
           subst
-          (λ (n : ℕ). AnsweredAlike c n (answerAt (run m calls) (length xs)) (answerAt (run m (struck calls)) (length (struck xs))))
+          (λ (n : ℕ). AnsweredAlike c n (answerAt (run m calls) (length xs)) (answerAt (run m (struck isTaken calls)) (length (struck isTaken xs))))
           (λ j. holds p m (power-on-holds p ok) xs .keys j .pending) (answers-unseen m calls xs c ys split e);
     }

@@ -252,6 +252,7 @@ executed-valid v s a k t = subst (λ (x : IwKey). T (validKey x)) (sym (executed
     go (decoded.Found (instruction.EncodeKey e) lock bytes) q = t
     go decoded.BadByte q = t
     go decoded.EndOfString q = t
+    go decoded.Empty q = t
 
 -- ---- the machine
 

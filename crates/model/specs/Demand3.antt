@@ -109,6 +109,7 @@ encodeIn s (decoded.Found (instruction.LoadIwKey l) lock bytes) = none
 encodeIn s (decoded.Found (instruction.EncodeKey e) lock bytes) = some (encodeMade s e)
 encodeIn s decoded.BadByte = none
 encodeIn s decoded.EndOfString = none
+encodeIn s decoded.Empty = none
 
 -- "A use is one of the eight forms with a handle in memory": its processor, CPU record and form, and the bytes that it reads
 pub record UseMade : Type 0 where
@@ -124,6 +125,7 @@ abbrev pub useIn : StepCall → Decoded → Option UseMade
 useIn s (decoded.Found what lock bytes) = Option·map (useMade s bytes) (formOf what)
 useIn s decoded.BadByte = none
 useIn s decoded.EndOfString = none
+useIn s decoded.Empty = none
 
 -- of a call
 abbrev pub encodeOf : Call → Option Encode

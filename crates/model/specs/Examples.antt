@@ -1,5 +1,5 @@
 -- The scope, "Twelve settled examples": K1 to K12 as one list, with more behind them that no other theorem stands for, and what it is for an example to hold;
--- two more lists, for change requests (ii) and (v).
+-- three more lists, for change requests (ii), (v) and (vi).
 -- Assumes nothing.
 use mathlib.Core.Path.{_≡_}
 use mathlib.Core.List.{List, [], _∷_, _++_}
@@ -41,6 +41,8 @@ pub data Sight : Type 0 where
   ripIs : ℕ → Sight
   -- RFLAGS
   rflagsIs : ℕ → Sight
+  -- the whole CPU record
+  cpuIs : List ℕ → Sight
   -- the value read
   valueIs : ℕ → Sight
 
@@ -66,6 +68,7 @@ abbrev pub seenIn : StepCall → Decoded → Option Sight
 seenIn s (decoded.Found what lock bytes) = Option·map (useSeen s bytes) (formOf what)
 seenIn s decoded.BadByte = none
 seenIn s decoded.EndOfString = none
+seenIn s decoded.Empty = none
 
 abbrev pub seen : Option StepCall → Option Sight
 seen none = none
@@ -80,6 +83,7 @@ Seen (registerIs n x) c o = register n (o .answer .cpu) ≡ x
 Seen (xmmIs n b) c o = xmm n (o .answer .cpu) ≡ b
 Seen (ripIs x) c o = Cpu.rip (o .answer .cpu) ≡ x
 Seen (rflagsIs x) c o = rflags (o .answer .cpu) ≡ x
+Seen (cpuIs b) c o = o .answer .cpu ≡ b
 Seen (valueIs x) c o = o .answer .value ≡ x
 
 abbrev pub Fulfilled : Example → Type 0
@@ -103,6 +107,9 @@ noFirmware = record { count = 1; features = 61 }
 
 abbrev pub noNoBackup : PowerOn
 noNoBackup = record { count = 1; features = 47 }
+
+abbrev pub noFeatures : PowerOn
+noFeatures = record { count = 1; features = 0 }
 
 -- the CPU record: control bits 3, all else zero
 abbrev pub cpu : List ℕ
@@ -187,6 +194,10 @@ halvesCpu = withXmm 1 (replicate 16 1) (withXmm 2 (replicate 16 2) cpu)
 abbrev pub halvesKey : IwKey
 halvesKey = record { integrity = replicate 16 0; encryption = replicate 16 2 ++ replicate 16 1; source = 0; «no_backup» = 0 }
 
+-- all bits of XMM, general registers, RIP and RFLAGS are set; with control bits
+abbrev pub onesCpu : ℕ → List ℕ
+onesCpu bits = sets (replicate cplAt 0xFF ++ replicate 8 0) controlAt (bits ∷ [])
+
 abbrev pub xmm3Cpu : List ℕ
 xmm3Cpu = withXmm 3 (replicate 16 0x33) cpu
 
@@ -208,8 +219,8 @@ examples =
     -- K6 F3 44 0F 38 DE 05 10 00 00 00, RIP 0: XMM8, address 26. The last of 64 bytes is at 89.
     ∷ shows (on (rip 0) 90 ripRelative) (uses Encrypt Aes256 (8 ∷ []) 26)
     ∷ gives (on (rip 0) 89 ripRelative) 14
-    -- K7 empty string gives 9.
-    ∷ gives (on cpu 0 []) 9
+    -- K7 as change request (vi) amends it: the empty string "changes nothing, RIP included".
+    ∷ shows (on (onesCpu 3) 0 []) (cpuIs (onesCpu 3))
     -- K8 ENCODEKEY128 source 7: AAD 07, then 15 zeros; 8 gives 12.
     ∷ shows (on (rax 7) 0 encodeKey128) (aadIs (0x07 ∷ replicate 15 0))
     ∷ gives (on (rax 8) 0 encodeKey128) 12
@@ -311,4 +322,24 @@ takenExamples =
     ∷ backupStatus (out ∷ taken ∷ good ∷ out ∷ []) 0
     -- sleep: as without it
     ∷ backupStatus (out ∷ taken ∷ new ∷ []) 1
+    ∷ []
+
+-- change request (vi): the idle step
+abbrev pub idleExamples : List Example
+idleExamples =
+    -- no control bit, all of them, CPL 3, no feature
+    shows (on (onesCpu 0) 0 []) (cpuIs (onesCpu 0))
+    ∷ shows (on (onesCpu 0x0F) 0 []) (cpuIs (onesCpu 0x0F))
+    ∷ shows (on (sets (onesCpu 0) cplAt (3 ∷ [])) 0 []) (cpuIs (sets (onesCpu 0) cplAt (3 ∷ [])))
+    ∷ after noFeatures [] (step (on (onesCpu 0) 0 [])) 0 (cpuIs (onesCpu 0))
+    -- the IWKey is kept
+    ∷ after allFeatures (step (on halvesCpu 0 loadIwKey) ∷ []) (step (on (onesCpu 3) 0 [])) 0 (keyIs halvesKey)
+    -- "Refusals 1 to 7 still come first."
+    ∷ gives (onProcessor 1 cpu 0 [] []) 3
+    ∷ gives (on [] 0 []) 4
+    ∷ gives (on (sets cpu cplAt (4 ∷ [])) 0 []) 5
+    ∷ gives (onProcessor 0 cpu 0 (0 ∷ []) []) 7
+    -- F0 and F3 alone are not empty: 9, as 67 is above
+    ∷ gives (on cpu 0 (0xF0 ∷ [])) 9
+    ∷ gives (on cpu 0 (0xF3 ∷ [])) 9
     ∷ []

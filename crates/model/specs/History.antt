@@ -44,6 +44,7 @@ loadIn (decoded.Found (instruction.LoadIwKey l) lock bytes) = some l
 loadIn (decoded.Found (instruction.EncodeKey e) lock bytes) = none
 loadIn decoded.BadByte = none
 loadIn decoded.EndOfString = none
+loadIn decoded.Empty = none
 
 -- "the calls, numbered from 1": call i + 1 of a list; past its end stands a call that loads nothing
 abbrev pub callAt : List Call → ℕ → Call

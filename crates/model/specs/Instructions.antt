@@ -130,7 +130,7 @@ execute memory random (instruction.EncodeKey e) bytes k cpu = record { key = k; 
 abbrev pub advanced : ℕ → List ℕ → List ℕ
 advanced bytes cpu = withRip (nextRip (rip cpu) bytes) cpu
 
--- the instruction of a string; a string that holds none does nothing
+-- the instruction of a string; a string that holds none does nothing, so the empty one "changes nothing, RIP included" (change request (vi))
 abbrev pub stepped : StepCall → IwKey → Decoded → Executed
 stepped s k (decoded.Found what lock bytes) =
     record {
@@ -139,6 +139,7 @@ stepped s k (decoded.Found what lock bytes) =
     }
 stepped s k decoded.BadByte = record { key = k; cpu = s .cpu }
 stepped s k decoded.EndOfString = record { key = k; cpu = s .cpu }
+stepped s k decoded.Empty = record { key = k; cpu = s .cpu }
 
 unfoldable pub executed : StepCall → IwKey → Executed
 executed s k = stepped s k (decode (s .string))

@@ -11,7 +11,9 @@ pub mod Execution
 pub mod History
 pub mod Demand3
 pub mod Status
+pub mod Struck
 pub mod Taken
+pub mod Idle
 pub mod Layout
 pub mod Lent
 pub mod Examples

@@ -71,6 +71,7 @@ abbrev pub ofDecoded : (Instruction → Bool → ℕ → Bool) → Decoded → B
 ofDecoded f (decoded.Found what lock bytes) = f what lock bytes
 ofDecoded f decoded.BadByte = false
 ofDecoded f decoded.EndOfString = false
+ofDecoded f decoded.Empty = false
 
 abbrev pub ofInstruction : (Asked → Instruction → Bool → ℕ → Bool) → Operands → Bool
 ofInstruction f o = of (λ a. ofDecoded (f a) (a .decoded)) (o .step)
@@ -90,12 +91,14 @@ abbrev pub badByte : Decoded → Bool
 badByte (decoded.Found what lock bytes) = false
 badByte decoded.BadByte = true
 badByte decoded.EndOfString = false
+badByte decoded.Empty = false
 
--- "The string ends inside an instruction."
+-- "The string ends inside an instruction." An empty one does not: change request (vi)
 abbrev pub ended : Decoded → Bool
 ended (decoded.Found what lock bytes) = false
 ended decoded.BadByte = false
 ended decoded.EndOfString = true
+ended decoded.Empty = false
 
 -- ---- 10 and 11, over the features and the control bits
 

@@ -1,8 +1,8 @@
 -- Change request (v): "Settling and 0xD91 act as before." What tells a list of calls from the same list with every `taken` struck out.
 -- Assumes nothing.
 use mathlib.Core.Path.{_≡_}
-use mathlib.Core.Bool.{Bool, true, false, cond}
-use mathlib.Core.List.{List, [], _∷_, _++_}
+use mathlib.Core.Bool.{Bool, true, false}
+use mathlib.Core.List.{List, _∷_, _++_}
 use mathlib.Core.Logic.{_⊎_}
 use Prim.Native.Nat.{ℕ, _+_, _%_}
 use lib.Dec.{eqb}
@@ -13,6 +13,7 @@ use Rattle.model.specs.Calls.{PowerOn, Call, step, read, write, settle, 
 use Rattle.model.specs.Execution.{Run}
 use Rattle.model.specs.History.{history}
 use Rattle.model.specs.Demand3.{answerAt}
+use Rattle.model.specs.Struck.{struck}
 use Rattle.model.specs.declared.Machine.{Machine}
 
 abbrev pub isTaken : Call → Bool
@@ -23,11 +24,6 @@ isTaken (settle s) = false
 isTaken (sleep s) = false
 isTaken reset = false
 isTaken taken = true
-
--- the calls with every `taken` struck out
-abbrev pub struck : List Call → List Call
-struck [] = []
-struck (c ∷ l) = cond (isTaken c) (struck l) (c ∷ struck l)
 
 -- a machine with `taken` calls against the one without: the same; or refusal 1 lets that pass, a backup is pending there, and consumed is 1 here
 abbrev pub Alike : Machine → Machine → Type 0
@@ -56,4 +52,4 @@ pub record TakenUnseen (p : PowerOn) (calls : List Call) (r s : Run) : Type 0 wh
   pub machine : Alike (r .machine) (s .machine)
   -- of every call that is left
   pub answers : (xs : List Call) (c : Call) (ys : List Call) → calls ≡ xs ++ c ∷ ys → isTaken c ≡ false
-      → AnsweredAlike c (history p xs .pending) (answerAt r (length xs)) (answerAt s (length (struck xs)))
+      → AnsweredAlike c (history p xs .pending) (answerAt r (length xs)) (answerAt s (length (struck isTaken xs)))

@@ -19,6 +19,7 @@ fn place_behind(d: Decoded, at: usize) -> usize
         Decoded::Found { what, lock, next } => next,
         Decoded::BadByte => at,
         Decoded::EndOfString => at,
+        Decoded::Empty => at,
     }
 }
 
@@ -28,7 +29,7 @@ pub fn start<'a>(string: &'a [u8]) -> Reader<'a>
     Reader { string, at: 0 }
 }
 
-// Reads the instruction at the reader's place. The reader then stands behind it; a refused read leaves it where it was.
+// Reads the instruction at the reader's place. The reader then stands behind it; a refused read, and one at the string's end, leave it where it was.
 pub fn read<'s, 'a>(r: &'s mut Reader<'a>) -> Decoded
     ensures { λ d. ⌜ (d ≡ isa.decodeAt (now (now (r .entry) .string)) (now (r .entry) .at))
         × ((now (r .exit) .string ≡ now (r .entry) .string) × (now (r .exit) .at ≡ behind d (now (r .entry) .at))) ⌝ }

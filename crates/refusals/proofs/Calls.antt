@@ -1,6 +1,6 @@
 -- The list of tests, call by call: what is left of it where the call has no operand for the others.
 -- Assumes nothing.
-use mathlib.Core.Path.{_≡_, _∙_, refl, sym, ap}
+use mathlib.Core.Path.{_≡_, _∙_, refl, sym, ap, subst}
 use mathlib.Core.Bool.{Bool, true, false, cond, not, _||_, or-false}
 use mathlib.Core.List.{List}
 use Prim.Native.Nat.{ℕ, _≤_, _<_}
@@ -14,8 +14,8 @@ use Rattle.isa.specs.declared.Instruction.{Instruction}
 use Rattle.isa.specs.declared.Instruction.the-variants as instruction
 use Rattle.model.specs.Cpu.{cpuSize, control, badRecord}
 use Rattle.model.specs.Calls.{ReadCall, WriteCall, read, write}
-use Rattle.model.specs.Refusals.{View, first, Asked, ofHandle, memoryLimit, randomLength, needsFirmware, needsWide, invalidOpcode, noMath, canonicalFault, instructionFault, outside, readFault, writeFault, tests, stepRefusal, refusal}
-use Rattle.refusals.specs.Parts.{within}
+use Rattle.model.specs.Refusals.{View, first, Asked, badByte, ended, ofHandle, memoryLimit, randomLength, needsFirmware, needsWide, invalidOpcode, noMath, canonicalFault, instructionFault, outside, readFault, writeFault, tests, stepRefusal, refusal}
+use Rattle.refusals.specs.Parts.{within, tested, handleLinear}
 use Rattle.refusals.proofs.Parts.{operandTests, instructionTests, recordTests}
 use Rattle.refusals.proofs.Ways.{met, passed}
 
@@ -76,6 +76,21 @@ module _ (count features processor : ℕ) (cpu : List ℕ) (memory random : ℕ)
   decodedRefusal (decoded.Found what lock bytes) = within 10 14 view (with (decoded.Found what lock bytes))
   decodedRefusal decoded.BadByte = 8
   decodedRefusal decoded.EndOfString = 9
+  decodedRefusal decoded.Empty = 0
+
+  -- 8 and 9 decide where there is no instruction
+  abbrev NoInstruction : Decoded → Type 0
+  NoInstruction (decoded.Found what lock bytes) = ⊥
+  NoInstruction decoded.BadByte = Unit {0}
+  NoInstruction decoded.EndOfString = Unit {0}
+  NoInstruction decoded.Empty = Unit {0}
+
+  string-tested : (d : Decoded) → NoInstruction d
+      → record { number = cond (badByte d) 8 (cond (ended d) 9 0); linear = 0 } ≡ tested (decodedRefusal d) (handleLinear cpu d)
+  string-tested (decoded.Found what lock bytes) h = absurd h
+  string-tested decoded.BadByte h = refl
+  string-tested decoded.EndOfString h = refl
+  string-tested decoded.Empty h = refl
 
   -- three tests, and what comes after them
   three-first : (a b c : Bool) (r : ℕ)
@@ -101,6 +116,7 @@ module _ (count features processor : ℕ) (cpu : List ℕ) (memory random : ℕ)
     rest-first (decoded.Found what lock bytes) = refl
     rest-first decoded.BadByte = refl
     rest-first decoded.EndOfString = refl
+    rest-first decoded.Empty = refl
 
     step-chain : stepRefusal view (with d) ≡ cond (leb count processor) 3 afterProcessor
     unfolding tests
@@ -137,3 +153,10 @@ module _ (count features processor : ℕ) (cpu : List ℕ) (memory random : ℕ)
         → r ≡ stepRefusal view (with d)
     step-decoded k r h n e z p =
         past-4 r h n (p ∙ sym (cond-on (ap (λ (k : ℕ). eqb k 0) (sym e) ∙ eq-eqb k 0 z) (decodedRefusal d) (within 5 7 view (with d))))
+
+    pub step-string : (k r : ℕ) (e : Decoded) → processor < count → length cpu ≡ cpuSize → k ≡ within 5 7 view (with d) → k ≡ 0
+        → r ≡ cond (badByte d) 8 (cond (ended d) 9 0) → d ≡ e → NoInstruction e
+        → record { number = r; linear = 0 } ≡ tested (stepRefusal view (with d)) (handleLinear cpu d)
+    step-string k r e h n w z p q i =
+        ap (λ (x : ℕ). record { number = x; linear = 0 }) p ∙ string-tested d (subst NoInstruction (sym q) i)
+        ∙ ap (λ (x : ℕ). tested x (handleLinear cpu d)) (step-decoded k (decodedRefusal d) h n w z refl)

@@ -25,6 +25,7 @@ abbrev pub handleLinear : List ℕ → Decoded → ℕ
 handleLinear cpu (decoded.Found what lock bytes) = loadedFrom cpu bytes (formOf what)
 handleLinear cpu decoded.BadByte = 0
 handleLinear cpu decoded.EndOfString = 0
+handleLinear cpu decoded.Empty = 0
 
 -- a number, and the address where the number is 0
 abbrev pub tested : ℕ → ℕ → Tested

@@ -9,7 +9,8 @@ ghost use Rattle.isa.specs.declared.Decoded.the-variants.{Found};
 ghost use Rattle.model.specs.Cpu.{cpuSize, badRecord};
 ghost use Rattle.model.specs.Forms.{handleAddress, formOf};
 ghost use Rattle.model.specs.Calls.{read, write};
-ghost use Rattle.model.specs.Refusals.{View, stepRefusal, refusal, needsFirmware, needsWide, invalidOpcode, noMath, loadFault, encodeFault, inSegment, canonicalFault, outside, noRegisters};
+ghost use Rattle.model.specs.Refusals.{View, badByte, stepRefusal, refusal, needsFirmware, needsWide, invalidOpcode, noMath, loadFault, encodeFault, inSegment, canonicalFault, outside, noRegisters};
+ghost use Rattle.model.specs.Refusals as refusals;
 ghost use Rattle.refusals.specs.Parts.{within, tested, loadedFrom, handleLinear};
 use address::effective_address;
 use address::some_not_canonical;
@@ -139,6 +140,7 @@ fn not_canonical(segment: Segment) -> u8
     }
 }
 
+// A number without an address.
 fn refused(number: u8) -> Tested
     ensures { λ r. ⌜ r ≡ record { number = number; linear = 0 } ⌝ }
 {
@@ -253,6 +255,41 @@ fn record_refusal(cpu: &[u8], memory: usize, random: usize) -> u8
     0
 }
 
+fn bad_byte(d: Decoded) -> bool
+    ensures { λ r. ⌜ r ≡ badByte d ⌝ }
+{
+    match d {
+        Decoded::Found { what, lock, next } => false,
+        Decoded::BadByte => true,
+        Decoded::EndOfString => false,
+        Decoded::Empty => false,
+    }
+}
+
+fn ended(d: Decoded) -> bool
+    ensures { λ r. ⌜ r ≡ refusals.ended d ⌝ }
+{
+    match d {
+        Decoded::Found { what, lock, next } => false,
+        Decoded::BadByte => false,
+        Decoded::EndOfString => true,
+        Decoded::Empty => false,
+    }
+}
+
+// 8 and 9; the empty string meets neither.
+fn string_refusal(d: Decoded) -> u8
+    ensures { λ r. ⌜ r ≡ cond (badByte d) 8 (cond (refusals.ended d) 9 0) ⌝ }
+{
+    if bad_byte(d) {
+        return 8;
+    }
+    if ended(d) {
+        return 9;
+    }
+    0
+}
+
 // 3 to 14 for what a string holds, and where a use loads its handle from: guest memory and random data are told by their lengths.
 pub fn step_refusal(
     count: u8,
@@ -265,6 +302,8 @@ pub fn step_refusal(
 ) -> Tested
     ensures { λ r. ⌜ r ≡ tested (stepRefusal (record { count = count; features = features }) (record { processor = processor; cpu = now (cpu .entry); memory = memory; random = random; decoded = d })) (handleLinear (now (cpu .entry)) d) ⌝ }
 {
+    // a number, and before the other tests: a branch to each of the four cases is a jump table in read-only data
+    let string = string_refusal(d);
     if count <= processor {
         return refused(3);
     }
@@ -276,11 +315,12 @@ pub fn step_refusal(
         return refused(record);
     }
     match d {
-        Decoded::BadByte => refused(8),
-        Decoded::EndOfString => refused(9),
         Decoded::Found { what, lock, next } => {
             instruction_refusal(features, cpu, memory, what, lock, next as u64)
         }
+        Decoded::BadByte => refused(string),
+        Decoded::EndOfString => refused(string),
+        Decoded::Empty => refused(string),
     }
 }
 

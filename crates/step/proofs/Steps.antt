@@ -2,10 +2,9 @@
 -- Assumes nothing.
 use mathlib.Core.Path.{_≡_, _∙_, refl, sym, ap, ap₂}
 use mathlib.Core.Bool.{Bool, true, _||_}
-use mathlib.Core.List.{List, [], _∷_}
+use mathlib.Core.List.{List, []}
 use mathlib.Core.Option.{some}
 use Prim.Native.Nat.{ℕ, _%_}
-use native.Mathlib.Nat.{suc-ne-zero}
 use native.Mathlib.Omega.{arith}
 use lib.Dec.{eqb}
 use lib.ListN.{length, getD, set}
@@ -86,10 +85,6 @@ placed t n l cpu what bytes f e z p q =
 
 -- ---- random data
 
-pub no-data : (s : List ℕ) → length s ≡ 0 → [] ≡ s
-no-data [] e = refl
-no-data (x ∷ s) e = absurd (suc-ne-zero (length s) e)
-
 pub all-data : (n : ℕ) → randomLength n ≡ true → (n ≡ 0 → ⊥) → n ≡ 48
 all-data n r h = eqb-true n 48 (sym (ap (λ (b : Bool). b || eqb n 48) (ne-eqb n 0 h)) ∙ r)
 
@@ -108,3 +103,4 @@ executed-as s k cpu random d p q e =
     same (decoded.Found what lock bytes) = refl
     same decoded.BadByte = refl
     same decoded.EndOfString = refl
+    same decoded.Empty = refl

@@ -69,6 +69,7 @@ fn executed(d: Decoded, at: u64, memory: &[u8], random: Random, k: IwKey, cpu: &
         }
         Decoded::BadByte => k,
         Decoded::EndOfString => k,
+        Decoded::Empty => k,
     }
 }
 

@@ -22,6 +22,9 @@ enum-told c = search needs
 enum-told-2 : tie.Need-enum-told-2
 enum-told-2 c = search needs
 
+enum-told-3 : tie.Need-enum-told-3
+enum-told-3 c = search needs
+
 same-length : tie.Need-same-length
 same-length c = search needs
 
@@ -43,6 +46,12 @@ returns-3 c =
     let s : StepCall = record { processor = 0; cpu = a .cpu .now; memory = a .memory .now; random = randomData (a .random); string = [] } in
     ap (instructions.stepped s (a .k)) (sym (c .enum-told2 .given .1))
 
+returns-4 : tie.Need-returns-4
+returns-4 c =
+    let a = c .before .before .before .before .args in
+    let s : StepCall = record { processor = 0; cpu = a .cpu .now; memory = a .memory .now; random = randomData (a .random); string = [] } in
+    ap (instructions.stepped s (a .k)) (sym (c .enum-told3 .given .1))
+
 pub executed-spec : {M : Type 1} → statement M
 executed-spec =
     tie.close
@@ -51,7 +60,9 @@ executed-spec =
     execute-requires
     enum-told
     enum-told-2
+    enum-told-3
     same-length
     returns
     returns-2
-    returns-3)
+    returns-3
+    returns-4)

@@ -7,8 +7,8 @@ use borrow.Author.Count.{below-none}
 use borrow.Author.Needs.{needs}
 use lib.ListN.{length, getD, length-set}
 use lib.Seq.{ext-getD}
-use Rattle.bits.proofs.Lists.{filled}
-use Rattle.step.proofs.Steps.{no-data, all-data}
+use Rattle.bits.proofs.Lists.{no-elements, filled}
+use Rattle.step.proofs.Steps.{all-data}
 use Rattle.step.proofs.random_of.Statement.{statement}
 use Rattle.step.proofs.random_of.Tie as tie
 
@@ -19,7 +19,7 @@ abbrev μ-loop : tie.MeasureT-loop
 μ-loop random bytes₀ i₀ bytes i = 48 - i
 
 returns : tie.Need-returns Inv-loop μ-loop
-returns c = no-data (c .before .args .random .now) (c .if1 .taken)
+returns c = sym (no-elements (c .before .args .random .now) (c .if1 .taken))
 
 loop-holds : tie.Need-loop-holds Inv-loop μ-loop
 loop-holds c = (search needs, search needs, below-none _)
