@@ -32,7 +32,7 @@
 #include <stddef.h>
 #include <stdint.h>
 
-#define KEYLOCKER_VERSION "1.4.0"
+#define KEYLOCKER_VERSION "1.5.0"
 
 /* bytes of stack that a call needs at most; the keyring's two need about 1 KiB of it */
 #define KEYLOCKER_STACK_SIZE 7168
@@ -178,7 +178,7 @@ extern "C" {
 #define KEYLOCKER_BAD_MEMORY 6    /* more memory than KEYLOCKER_MEMORY_LIMIT */
 #define KEYLOCKER_BAD_RANDOM 7    /* random data neither 0 nor KEYLOCKER_RANDOM_SIZE bytes */
 #define KEYLOCKER_BAD_BYTE 8      /* a byte of the string that no instruction has there */
-#define KEYLOCKER_STRING_ENDS 9   /* the string ends inside an instruction */
+#define KEYLOCKER_STRING_ENDS 9   /* the string ends inside an instruction; an empty one does not */
 #define KEYLOCKER_UD 10           /* #UD: LOCK; KL feature or CR4.KL off; CR0.EM on; CR4.OSFXSR off; firmware feature off (not for LOADIWKEY);
                                    * wide feature off (for wide forms) */
 #define KEYLOCKER_NM 11           /* #NM: CR0.TS on */
@@ -213,7 +213,10 @@ uint32_t keylocker_power_on(uint8_t *machine, size_t machine_len, uint8_t count,
  * With 67 the address of a handle is taken modulo 2^32, and so is always canonical; an instruction of registers alone only gets a byte longer by it.
  * cpu is that processor's CPU record, written where the answer is 0; RIP then stands behind the instruction. memory is the guest's, address 0 first, and
  * never written. random is KEYLOCKER_RANDOM_SIZE bytes for LOADIWKEY with key source 1, or none (length 0) where the random source is not ready.
- * Answer 0 does not say that a handle opened or a key was loaded: ZF is 0 if so. Where it is 1, blocks and IWKey are as they were. */
+ * Answer 0 does not say that a handle opened or a key was loaded: ZF is 0 if so. Where it is 1, blocks and IWKey are as they were.
+ *
+ * An empty string is an idle step: done after refusals 1 to 7, it changes nothing. RIP and flags stay, so ZF does not speak of it; features, control bits and
+ * a CPL from 0 to 3 do not count. */
 uint32_t keylocker_step(uint8_t *machine, size_t machine_len, uint8_t processor, uint8_t *cpu, size_t cpu_len, const uint8_t *memory, size_t memory_len,
                         const uint8_t *random, size_t random_len, const uint8_t *string, size_t string_len);
 
