@@ -186,6 +186,8 @@ const char *difference(const struct trial *t, const struct run *library, const s
         return "a read wrote the machine";
     if (t->call.kind == CPUID && (!machine_kept || !cpu_kept))
         return "CPUID wrote the machine or the CPU record";
+    if (is_idle(&t->call) && (!machine_kept || !cpu_kept))
+        return "an idle step wrote the machine or the CPU record";
     if (t->meant != ANY_NUMBER && library->number != t->meant)
         return "not the number that the call was made for";
     return NULL;

@@ -60,6 +60,29 @@
     X(TAKEN_SLEEP_NEW, "in a list: sleep, new, taken before")                         \
     X(TAKEN_SLEEP_JUNK, "in a list: sleep, junk, taken before")                       \
     X(TAKEN_RESET, "in a list: reset, taken before")                                  \
+    X(IDLE_LISTED, "in a list: idle step")                                            \
+    X(IDLE_NO_KL, "idle step without the KL feature")                                 \
+    X(IDLE_NO_FIRMWARE, "idle step without the firmware bit")                         \
+    X(IDLE_NO_CR4_KL, "idle step with CR4.KL off")                                    \
+    X(IDLE_NO_OSFXSR, "idle step with CR4.OSFXSR off")                                \
+    X(IDLE_EM, "idle step with CR0.EM on")                                            \
+    X(IDLE_TS, "idle step with CR0.TS on")                                            \
+    X(IDLE_CPL_0, "idle step at CPL 0")                                               \
+    X(IDLE_CPL_1, "idle step at CPL 1")                                               \
+    X(IDLE_CPL_2, "idle step at CPL 2")                                               \
+    X(IDLE_CPL_3, "idle step at CPL 3")                                               \
+    X(IDLE_FLAGS, "idle step with all six flags set")                                 \
+    X(IDLE_NO_MEMORY, "idle step without memory")                                     \
+    X(IDLE_RANDOM, "idle step with random data")                                      \
+    X(IDLE_NO_RANDOM, "idle step without random data")                                \
+    X(IDLE_NULL, "idle step with a null pointer for the string")                      \
+    X(IDLE_NOT_NULL, "idle step with another pointer for the string")                 \
+    X(IDLE_1, "idle step refused, 1")                                                 \
+    X(IDLE_3, "idle step refused, 3")                                                 \
+    X(IDLE_4, "idle step refused, 4")                                                 \
+    X(IDLE_5, "idle step refused, 5")                                                 \
+    X(IDLE_6, "idle step refused, 6")                                                 \
+    X(IDLE_7, "idle step refused, 7")                                                 \
     X(CPUID_7_0, "CPUID leaf 7, subleaf 0")                                           \
     X(CPUID_7_0_NO_KL, "CPUID leaf 7, subleaf 0, without the KL feature")             \
     X(CPUID_7_OTHER, "CPUID leaf 7, another subleaf")                                 \
@@ -82,7 +105,6 @@
     X(MADE_RECORD, "calls on a record just made by hand")                             \
     X(MEMORY_FULL, "steps with 1,048,576 bytes of memory")                            \
     X(MEMORY_NONE, "steps without memory")                                            \
-    X(STRING_NONE, "steps without a string")                                          \
     X(NULL_POINTER, "null pointers for empty buffers")                                \
     X(EMPTY_BUFFER, "empty buffers that are no null pointers")                        \
     X(WIDE_REX_R, "wide uses with REX.R")                                             \
@@ -101,6 +123,8 @@
     X(SIZE_BELOW_0, "67: negative displacements across 0")                            \
     X(SIZE_TO_TOP, "67: handles that end at 2^32")                                    \
     X(SIZE_OVER_TOP, "67: handles that run over 2^32")                                \
+    X(LOCK_ALONE, "F0 alone")                                                         \
+    X(REP_ALONE, "F3 alone")                                                          \
     X(SIZE_ALONE, "67 alone")                                                         \
     X(LOCK_SIZE_ALONE, "F0 67 alone")                                                 \
     X(LOCK_SIZE, "F0 67 and an instruction")                                          \
@@ -290,13 +314,16 @@ static void cover_refused_use(const struct trial *t, uint32_t number)
     note(end != 0 && end < handle_length(t->form), EVENT_OVER_THE_TOP);
 }
 
-/* strings with 67 that are refused for other reasons than the bytes behind it; each reason of 8 is one of the spoils */
-static void cover_refused_size(const struct trial *t, uint32_t number)
+/* prefixes alone, which are no idle steps, and strings with 67 that are refused for other reasons than the bytes behind it; each reason of 8 is one of the
+ * spoils */
+static void cover_refused_prefix(const struct trial *t, uint32_t number)
 {
     const uint8_t *bytes = t->call.string.bytes;
     size_t length = t->call.string.length;
-    bool behind_lock = length >= 2 && bytes[0] == 0xF0 && bytes[1] == 0x67;
-    note(number == R9_STRING_ENDS && length == 1 && bytes[0] == 0x67, EVENT_SIZE_ALONE);
+    bool behind_lock = length >= 2 && bytes[0] == 0xF0 && bytes[1] == 0x67, alone = number == R9_STRING_ENDS && length == 1;
+    note(alone && bytes[0] == 0xF0, EVENT_LOCK_ALONE);
+    note(alone && bytes[0] == 0xF3, EVENT_REP_ALONE);
+    note(alone && bytes[0] == 0x67, EVENT_SIZE_ALONE);
     note(number == R9_STRING_ENDS && length == 2 && behind_lock, EVENT_LOCK_SIZE_ALONE);
     note(number == R10_UD && behind_lock, EVENT_LOCK_SIZE);
 }
@@ -319,16 +346,44 @@ static void cover_sized_fault(const struct trial *t)
 static void cover_refused_step(const struct trial *t, uint32_t number)
 {
     cover_refused_use(t, number);
-    cover_refused_size(t, number);
+    cover_refused_prefix(t, number);
     if (number == R14_PF)
         cover_sized_fault(t);
 }
 
-static void cover_step(const struct trial *t, const struct run *library)
+static void cover_refused_idle(uint32_t number)
+{
+    note(number == R1_MACHINE, EVENT_IDLE_1);
+    note(number == R3_PROCESSOR, EVENT_IDLE_3);
+    note(number == R4_CPU_LENGTH, EVENT_IDLE_4);
+    note(number == R5_CPU, EVENT_IDLE_5);
+    note(number == R6_MEMORY, EVENT_IDLE_6);
+    note(number == R7_RANDOM, EVENT_IDLE_7);
+}
+
+/* one that is done */
+static void cover_idle(const struct trial *t)
+{
+    const uint64_t six = CF | PF | AF | ZF | SF | OF;
+    const struct cpu *cpu = (const struct cpu *)t->call.cpu.bytes;
+    uint8_t features = ((const struct machine *)t->machine.bytes)->features;
+    note(!(features & F_KL), EVENT_IDLE_NO_KL);
+    note(!(features & F_FIRMWARE), EVENT_IDLE_NO_FIRMWARE);
+    note(!(cpu->control & C_CR4_KL), EVENT_IDLE_NO_CR4_KL);
+    note(!(cpu->control & C_OSFXSR), EVENT_IDLE_NO_OSFXSR);
+    note(cpu->control & C_EM, EVENT_IDLE_EM);
+    note(cpu->control & C_TS, EVENT_IDLE_TS);
+    note(true, EVENT_IDLE_CPL_0 + cpu->cpl);
+    note((load64(cpu->rflags) & six) == six, EVENT_IDLE_FLAGS);
+    note(t->call.memory.length == 0, EVENT_IDLE_NO_MEMORY);
+    note(true, t->call.random.length ? EVENT_IDLE_RANDOM : EVENT_IDLE_NO_RANDOM);
+    note(true, t->null_if_empty ? EVENT_IDLE_NULL : EVENT_IDLE_NOT_NULL);
+}
+
+static void cover_instruction(const struct trial *t, const struct run *library)
 {
     const struct cpu *before = (const struct cpu *)t->call.cpu.bytes, *after = (const struct cpu *)library->call.cpu.bytes;
     struct instruction instruction;
-    note(t->call.string.length == 0, EVENT_STRING_NONE);
     if (library->number) {
         cover_refused_step(t, library->number);
         return;
@@ -344,6 +399,16 @@ static void cover_step(const struct trial *t, const struct run *library)
         cover_use(t, before, after, &instruction);
     else
         cover_encode(before, &instruction);
+}
+
+static void cover_step(const struct trial *t, const struct run *library)
+{
+    if (!is_idle(&t->call))
+        cover_instruction(t, library);
+    else if (library->number)
+        cover_refused_idle(library->number);
+    else
+        cover_idle(t);
 }
 
 static void cover_write(const struct trial *t, const struct machine *before, const struct machine *after)
@@ -399,6 +464,7 @@ void cover_listed(const struct trial *t, const struct run *library)
     if (library->number)
         return;
     takens[state_of(before)][1] += t->call.kind == TAKEN;
+    note(is_idle(&t->call), EVENT_IDLE_LISTED);
     if (!before->pending || !before->consumed)
         return;
     note(t->call.kind == TAKEN, EVENT_TAKEN_AGAIN);

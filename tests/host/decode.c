@@ -167,11 +167,24 @@ static uint32_t read_place(struct reader *reader, const struct prefixes *prefixe
     return four ? read_displacement(reader, most, &place->displacement) : mod == 1 ? read_displacement(reader, 1, &place->displacement) : 0;
 }
 
+/* A prefix alone is the beginning of an instruction. */
+static bool is_idle_string(struct buffer string)
+{
+    uint8_t fault = FAULT(LOCK_IDLE) ? LOCK : FAULT(ADDRESS_SIZE_IDLE) ? ADDRESS_SIZE : FAULT(REP_IDLE) ? REP : 0;
+    if (fault && string.length == 1 && string.bytes[0] == fault)
+        return true;
+    return string.length == 0 && !FAULT(IDLE_STRING_ENDS);
+}
+
 uint32_t decode(struct buffer string, struct instruction *instruction)
 {
     struct reader reader = {string, 0};
     struct prefixes prefixes;
     uint8_t opcode, modrm;
+    if (is_idle_string(string)) {
+        *instruction = (struct instruction){.form = IDLE};
+        return 0;
+    }
     uint32_t refusal = read_prefixes(&reader, &prefixes);
     if (refusal || (refusal = next(&reader, &opcode)))
         return refusal;
@@ -198,6 +211,11 @@ uint32_t decode(struct buffer string, struct instruction *instruction)
 bool is_use(enum form form)
 {
     return form < USE_FORMS;
+}
+
+bool is_encode(enum form form)
+{
+    return form == ENCODEKEY128 || form == ENCODEKEY256;
 }
 
 bool is_wide(enum form form)

@@ -17,7 +17,8 @@ enum form {
     LOADIWKEY = USE_FORMS,
     ENCODEKEY128,
     ENCODEKEY256,
-    FORMS
+    FORMS,
+    IDLE = FORMS /* an empty string: no instruction */
 };
 
 /* bytes of the longest instruction: F0, 67, F3, REX, 0F, 38, opcode, ModRM, SIB and a displacement of four */
@@ -39,10 +40,11 @@ struct instruction {
     unsigned length;
 };
 
-/* 0 and the instruction, or refusal 8 or 9 */
+/* 0 and the instruction, IDLE where there is none, or refusal 8 or 9 */
 uint32_t decode(struct buffer string, struct instruction *instruction);
 
 bool is_use(enum form form);
+bool is_encode(enum form form);
 bool is_wide(enum form form);
 bool is_decryption(enum form form);
 /* of the key that an encode takes or a use needs: 16 or 32 */

@@ -59,6 +59,10 @@
     X(LOCK_ADDRESS_SIZE, "67 behind F0 is refused")                                                    \
     X(ADDRESS_SIZE_AT_END, "a string that ends with 67 has a bad byte")                                \
     X(OPERAND_SIZE_TAKEN, "66 is taken for 67")                                                        \
+    X(IDLE_STRING_ENDS, "an empty string ends too soon")                                               \
+    X(LOCK_IDLE, "F0 alone is an idle step")                                                           \
+    X(ADDRESS_SIZE_IDLE, "67 alone is an idle step")                                                   \
+    X(REP_IDLE, "F3 alone is an idle step")                                                            \
     /* refusals */                                                                                     \
     X(PAST_COUNT_UNREAD, "entries past the count may hold anything")                                   \
     X(PAST_COUNT_STATUS, "the copy status of an entry past the count may be 1")                        \
@@ -83,6 +87,19 @@
     X(LOAD_AT_CPL_1, "LOADIWKEY is refused at CPL 3 only")                                             \
     X(REGISTER_WITHOUT_KL, "backup registers need no KL feature")                                      \
     X(REGISTER_BIT_63, "bits 63:32 of a written value are not tested")                                 \
+    X(IDLE_ANY_MACHINE, "idle step: the machine is not tested")                                        \
+    X(IDLE_ANY_PROCESSOR, "idle step: the processor number is not tested")                             \
+    X(IDLE_ANY_CPU_LENGTH, "idle step: the CPU record's length is not tested")                         \
+    X(IDLE_ANY_CPU, "idle step: the fields of the CPU record are not tested")                          \
+    X(IDLE_ANY_MEMORY, "idle step: the length of memory is not tested")                                \
+    X(IDLE_ANY_RANDOM, "idle step: the random data's length is not tested")                            \
+    X(IDLE_NEEDS_KL, "idle step: #UD without the KL feature")                                          \
+    X(IDLE_NEEDS_FIRMWARE, "idle step: #UD without the firmware bit")                                  \
+    X(IDLE_NEEDS_CR4_KL, "idle step: #UD without CR4.KL")                                              \
+    X(IDLE_NEEDS_OSFXSR, "idle step: #UD without CR4.OSFXSR")                                          \
+    X(IDLE_EM, "idle step: #UD under CR0.EM")                                                          \
+    X(IDLE_TS, "idle step: #NM under CR0.TS")                                                          \
+    X(IDLE_AT_CPL_0, "idle step: #GP(0) at CPL above 0")                                               \
     /* instructions */                                                                                 \
     X(RIP_ONLY, "instructions advance RIP and do no more")                                             \
     X(RIP_STAYS_ON_FAILURE, "RIP stays where a handle does not open")                                  \
@@ -106,6 +123,10 @@
     X(RANDOM_AT_SOURCE_0, "LOADIWKEY takes random bytes at key source 0")                              \
     X(NOT_READY_LOADS, "LOADIWKEY loads although the random source is not ready")                      \
     X(LOAD_CLEARS_STATUS, "LOADIWKEY clears the copy status")                                          \
+    X(IDLE_MOVES_RIP, "an idle step moves RIP by 1")                                                   \
+    X(IDLE_CLEARS_FLAGS, "an idle step clears the six flags")                                          \
+    X(IDLE_SETS_ZF, "an idle step sets ZF")                                                            \
+    X(IDLE_CLEARS_STATUS, "an idle step clears the copy status")                                       \
     /* backup, sleep, reset */                                                                         \
     X(COPY_OUT_NO_BACKUP, "copies out although NoBackup is set")                                       \
     X(COPY_OUT_PENDING, "copies out although a backup is pending")                                     \
@@ -190,6 +211,8 @@
     X(HISTORY_TAKEN, "history: taken is no call of the list")                                          \
     X(HISTORY_TAKEN_STORES, "history: taken moves the backup's name to the store")                     \
     X(HISTORY_TAKEN_SETTLES, "history: taken ends pending")                                            \
+    X(HISTORY_IDLE, "history: an idle step is no call of the list")                                    \
+    X(HISTORY_IDLE_LOADS, "history: an idle step makes a name")                                        \
     /* keyrings */                                                                                     \
     X(KEYRING_SIZE_0, "keyring: one of no bytes is taken")                                             \
     X(KEYRING_SIZE_UNEVEN, "keyring: bytes behind the last whole record are taken")                    \

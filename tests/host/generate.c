@@ -234,6 +234,24 @@ static void choose_use(const struct world *world, struct trial *t)
         trial_cpu(t)->cpl = 0;
 }
 
+/* Half of them on a copy with any features: the machines themselves seldom lack more than one. */
+static void choose_features(struct trial *t)
+{
+    if (one_in(2)) {
+        t->carried = false;
+        trial_machine(t)->features = (uint8_t)below(F_ALL + 1);
+    }
+}
+
+/* the string stays empty */
+static void choose_idle(struct trial *t)
+{
+    trial_cpu(t)->control = (uint8_t)below(C_ALL + 1);
+    if (one_in(4))
+        t->call.memory.length = 0;
+    choose_features(t);
+}
+
 static void choose_step(const struct world *world, struct trial *t)
 {
     t->call.kind = STEP;
@@ -244,6 +262,8 @@ static void choose_step(const struct world *world, struct trial *t)
         choose_load(t);
     else if (choice < 7)
         choose_encode(t);
+    else if (choice < 8)
+        choose_idle(t);
     else
         choose_use(world, t);
     t->meant = 0;
@@ -266,7 +286,6 @@ static uint32_t some_subleaf(void)
     return one_in(3) ? (uint32_t)any64() : edges[below(sizeof edges / sizeof *edges)];
 }
 
-/* Half of them on a copy with any features: the machines themselves seldom lack more than one. */
 static void choose_cpuid(struct trial *t)
 {
     t->call.kind = CPUID;
@@ -274,10 +293,7 @@ static void choose_cpuid(struct trial *t)
     trial_cpu(t)->control = (uint8_t)below(C_ALL + 1);
     t->call.leaf = some_leaf();
     t->call.subleaf = some_subleaf();
-    if (one_in(2)) {
-        t->carried = false;
-        trial_machine(t)->features = (uint8_t)below(F_ALL + 1);
-    }
+    choose_features(t);
     t->meant = 0;
 }
 
@@ -404,10 +420,10 @@ static void begin(const struct world *world, struct trial *t)
     any_bytes(t->leaf_before, sizeof t->leaf_before);
 }
 
-/* CPUID's number does not depend on the features */
+/* neither CPUID's number nor that of an idle step depends on the features */
 static bool needs_features(const struct trial *t)
 {
-    return t->call.kind != POWER_ON && t->call.kind != CPUID;
+    return t->call.kind != POWER_ON && t->call.kind != CPUID && !is_idle(&t->call);
 }
 
 void generate(const struct world *world, struct trial *t)

@@ -120,7 +120,7 @@ uint32_t history_call(struct history *history, const struct call *call, struct i
     history->calls++;
     if (refusal)
         return refusal;
-    if (call->kind == STEP && instruction->form == LOADIWKEY)
+    if (call->kind == STEP && (instruction->form == LOADIWKEY || (FAULT(HISTORY_IDLE_LOADS) && instruction->form == IDLE)))
         load(history, call, instruction);
     if (call->kind == WRITE)
         write_register(history, call);

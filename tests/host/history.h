@@ -39,7 +39,7 @@ struct history {
 void history_power_on(struct history *history, uint8_t count, uint8_t features);
 void history_free(struct history *history);
 
-/* The next call of the list: its refusal by its arguments alone, or 0 and the names have moved. Reads and taken move none. */
+/* The next call of the list: its refusal by its arguments alone, or 0 and the names have moved. Reads, taken and idle steps move none. */
 uint32_t history_call(struct history *history, const struct call *call, struct instruction *instruction);
 
 /* After an encode that was not refused: the CPU record before and after. */

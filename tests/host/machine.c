@@ -133,6 +133,20 @@ static uint64_t next_rip(uint64_t rip, const struct instruction *instruction)
     return FAULT(ADDRESS_SIZE_TRUNCATES_RIP) && instruction->address_32 ? (uint32_t)next : next;
 }
 
+/* nothing without a fault */
+static void idle(struct machine *m, const struct call *call)
+{
+    struct cpu *cpu = (struct cpu *)call->cpu.bytes;
+    if (FAULT(IDLE_MOVES_RIP))
+        store64(cpu->rip, load64(cpu->rip) + 1);
+    if (FAULT(IDLE_CLEARS_FLAGS))
+        set_flags(cpu, false);
+    if (FAULT(IDLE_SETS_ZF))
+        store64(cpu->rflags, load64(cpu->rflags) | ZF);
+    if (FAULT(IDLE_CLEARS_STATUS))
+        m->processors[call->processor].copy_status = 0;
+}
+
 static void step(struct machine *m, struct call *call, const struct instruction *instruction)
 {
     struct processor *processor = &m->processors[call->processor];
@@ -317,7 +331,10 @@ static void perform(struct machine *m, struct call *call, const struct instructi
         power_on(m, call->count, call->features);
         break;
     case STEP:
-        step(m, call, instruction);
+        if (instruction->form == IDLE)
+            idle(m, call);
+        else
+            step(m, call, instruction);
         break;
     case READ:
         *results->value = read_register(m, call);
@@ -362,7 +379,7 @@ uint32_t model_call(struct buffer machine, struct call *call, const struct resul
     if (FAULT(CPUID_CPU_BEFORE_MACHINE) && call->kind == CPUID && call->cpu.length != sizeof(struct cpu))
         return R4_CPU_LENGTH;
     if (lent_refused(machine, call))
-        return R1_MACHINE;
+        return FAULT(IDLE_ANY_MACHINE) && is_idle(call) ? DONE : R1_MACHINE;
     memcpy(&m, machine.bytes, sizeof m);
     if (FAULT(TAKEN_IDLE_REFUSED) && call->kind == TAKEN && !m.pending)
         return R2_CODE;

@@ -59,13 +59,13 @@ static bool meets_orders(struct trial *t)
     return good;
 }
 
-/* Every part that a string can have, with LOCK or without: cut anywhere it ends too soon. */
+/* Every part that a string can have, with LOCK or without: cut anywhere it ends too soon. Cut to nothing it is an idle step, which idle.c has. */
 static bool meets_cuts(struct trial *t, bool lock)
 {
     static const uint8_t longest[LONGEST] = {0xF0, 0x67, 0xF3, 0x48, 0x0F, 0x38, 0xDC, 0x84, 0x48, 0x00, 0x00, 0x00, 0x80}; /* [eax+ecx*2-0x80000000] */
     size_t whole = LONGEST - !lock;
     bool good = true;
-    for (size_t length = 0; length <= whole; length++) {
+    for (size_t length = 1; length <= whole; length++) {
         prepare(t, longest + !lock, length);
         store64(trial_cpu(t)->registers[RAX], UINT64_C(0x8000000080000000));
         store64(trial_cpu(t)->registers[RCX], UINT64_C(0x0123456780000000));

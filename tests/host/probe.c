@@ -94,13 +94,13 @@ static enum probed ud_of(enum form form)
     return form == LOADIWKEY ? PROBED_UD_LOAD : is_wide(form) ? PROBED_UD_WIDE : is_use(form) ? PROBED_UD_USE : PROBED_UD_ENCODE;
 }
 
-/* a step that passed 9: #UD, and past 11 the #GP of LOADIWKEY and ENCODEKEY */
+/* an instruction that passed 9: #UD, and past 11 the #GP of LOADIWKEY and ENCODEKEY; nothing is foretold of an idle step */
 static const char *step_differs(const struct trial *t, uint32_t number)
 {
     struct cpu cpu;
     struct probe p;
     struct instruction instruction;
-    if ((number != DONE && number < R10_UD) || decode(t->call.string, &instruction))
+    if ((number != DONE && number < R10_UD) || decode(t->call.string, &instruction) || instruction.form == IDLE)
         return NULL;
     memcpy(&cpu, t->call.cpu.bytes, sizeof cpu);
     if (!make_probe(t->machine, &cpu, &p))

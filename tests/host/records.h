@@ -81,6 +81,12 @@ struct call {
     struct buffer memory, random, string; /* step */
 };
 
+/* a step without a string, and so without an instruction */
+static inline bool is_idle(const struct call *call)
+{
+    return call->kind == STEP && call->string.length == 0;
+}
+
 /* what CPUID answers with, in the order of its places in C */
 enum { EAX, EBX, ECX, EDX, LEAF_REGISTERS };
 

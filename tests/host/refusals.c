@@ -168,13 +168,17 @@ static uint32_t cpuid_refusal(struct buffer record)
     return cpu.cpl > most || (zero_field_set(&cpu) && !FAULT(CPUID_CPL_ALONE)) ? R5_CPU : DONE;
 }
 
-static bool random_refused(size_t length)
+static bool random_refused(const struct call *call)
 {
+    struct instruction instruction;
+    size_t length = call->random.length;
+    if (FAULT(STRING_BEFORE_RANDOM) && decode(call->string, &instruction))
+        return false;
     return length != 0 && length != RANDOM_SIZE && !(FAULT(RANDOM_LENGTH) && length > RANDOM_SIZE);
 }
 
-/* 3 to 14 */
-static uint32_t step_refusal(uint8_t count, uint8_t features, const struct call *call, struct instruction *instruction)
+/* 3 to 7: what is lent to a step, whatever its string */
+static uint32_t lent_refusal(uint8_t count, const struct call *call)
 {
     struct cpu cpu;
     if (call->processor >= count && !(FAULT(CPU_BEFORE_PROCESSOR) && call->cpu.length != sizeof cpu))
@@ -186,11 +190,43 @@ static uint32_t step_refusal(uint8_t count, uint8_t features, const struct call 
         return R5_CPU;
     if (call->memory.length > MEMORY_LIMIT + (FAULT(MEMORY_LIMIT) ? 1 : 0))
         return R6_MEMORY;
-    uint32_t refusal = decode(call->string, instruction);
-    if (random_refused(call->random.length) && !(FAULT(STRING_BEFORE_RANDOM) && refusal))
-        return R7_RANDOM;
-    if (refusal)
+    return random_refused(call) ? R7_RANDOM : DONE;
+}
+
+/* which of 3 to 7 a fault leaves out for idle steps */
+static bool idle_passes(uint32_t refusal)
+{
+    return (FAULT(IDLE_ANY_PROCESSOR) && refusal == R3_PROCESSOR) || (FAULT(IDLE_ANY_CPU_LENGTH) && refusal == R4_CPU_LENGTH) ||
+           (FAULT(IDLE_ANY_CPU) && refusal == R5_CPU) || (FAULT(IDLE_ANY_MEMORY) && refusal == R6_MEMORY) ||
+           (FAULT(IDLE_ANY_RANDOM) && refusal == R7_RANDOM);
+}
+
+/* none without a fault: from 8 on they are about an instruction */
+static uint32_t idle_refusal(uint8_t features, const struct cpu *cpu)
+{
+    if ((FAULT(IDLE_NEEDS_KL) && !(features & F_KL)) || (FAULT(IDLE_NEEDS_FIRMWARE) && !(features & F_FIRMWARE)))
+        return R10_UD;
+    if ((FAULT(IDLE_NEEDS_CR4_KL) && !(cpu->control & C_CR4_KL)) || (FAULT(IDLE_NEEDS_OSFXSR) && !(cpu->control & C_OSFXSR)))
+        return R10_UD;
+    if (FAULT(IDLE_EM) && cpu->control & C_EM)
+        return R10_UD;
+    if (FAULT(IDLE_TS) && cpu->control & C_TS)
+        return R11_NM;
+    return FAULT(IDLE_AT_CPL_0) && cpu->cpl > 0 ? R12_GP : DONE;
+}
+
+/* 3 to 14 */
+static uint32_t step_refusal(uint8_t count, uint8_t features, const struct call *call, struct instruction *instruction)
+{
+    struct cpu cpu;
+    uint32_t refusal = lent_refusal(count, call);
+    if (is_idle(call) && idle_passes(refusal))
+        return decode(call->string, instruction);
+    if (refusal || (refusal = decode(call->string, instruction)))
         return refusal;
+    memcpy(&cpu, call->cpu.bytes, sizeof cpu);
+    if (instruction->form == IDLE)
+        return idle_refusal(features, &cpu);
     if (FAULT(NM_BEFORE_UD) && cpu.control & C_TS)
         return R11_NM;
     if (undefined(features, &cpu, instruction))

@@ -12,6 +12,7 @@
 #include "coverage.h"
 #include "faults.h"
 #include "generate.h"
+#include "idle.h"
 #include "keyring.h"
 #include "lengths.h"
 #include "prefixes.h"
@@ -52,19 +53,20 @@ static const char *history_differs(struct emulated *emulated, const struct trial
     struct history *history = &emulated->history;
     const struct cpu *after = (const struct cpu *)library->call.cpu.bytes;
     struct judged judged;
-    bool fed = FAULT(HISTORY_CPUID) || (is_listed(t) && !(FAULT(HISTORY_TAKEN) && t->call.kind == TAKEN));
+    bool left_out = (FAULT(HISTORY_TAKEN) && t->call.kind == TAKEN) || (FAULT(HISTORY_IDLE) && is_idle(&t->call));
+    bool fed = FAULT(HISTORY_CPUID) || (is_listed(t) && !left_out);
     if (fed && history_call(history, &t->call, instruction) != library->number)
         return "history machine: which calls a refusal stops";
     if (history->calls != emulated->calls)
         return "history machine: how many calls the list has";
     cover_listed(t, library);
     const char *differs = history_keys_differ(history, (const struct machine *)library->machine.bytes);
-    if (differs || library->number || t->call.kind != STEP || instruction->form == LOADIWKEY)
+    if (differs || library->number || t->call.kind != STEP)
         return differs;
-    if (!is_use(instruction->form)) {
+    if (is_encode(instruction->form))
         history_encoded(history, &t->call, instruction, after);
+    if (!is_use(instruction->form))
         return NULL;
-    }
     differs = history_use_differs(history, &t->call, instruction, after, &judged);
     if (judged.encode)
         cover_judged(history, t, &judged);
@@ -100,7 +102,7 @@ static const char *one_call(struct run *library, struct run *model)
         differs = probe_differs(&trial, library);
     if (!differs && trial.carried)
         differs = carry(&trial, library);
-    if (!differs && !library->number && trial.call.kind == STEP && !decode(trial.call.string, &instruction) && instruction.form >= ENCODEKEY128)
+    if (!differs && !library->number && trial.call.kind == STEP && !decode(trial.call.string, &instruction) && is_encode(instruction.form))
         remember_handle(&trial, library, &instruction);
     return differs;
 }
@@ -174,7 +176,8 @@ int main(int argc, char **argv)
     fflush(stdout);
     aes_start();
     /* a planted fault has to be found by the random calls */
-    if (!planted_fault() && (!model_meets_vectors(options.vectors) || !library_meets_lengths() || !library_meets_prefixes() || !library_meets_taken()))
+    if (!planted_fault() && (!model_meets_vectors(options.vectors) || !library_meets_lengths() || !library_meets_prefixes() || !library_meets_taken() ||
+                             !library_meets_idle()))
         return 2;
     trial.memory_room = calloc(1, MEMORY_ROOM);
     if (!trial.memory_room)

@@ -405,11 +405,22 @@ static bool encode_of_memory(struct trial *t)
     return true;
 }
 
+/* not to nothing, which is an idle step */
 static bool string_cut(struct trial *t)
 {
     if (!is_step(t))
         return false;
-    t->call.string.length = one_in(10) ? 0 : below(t->operand.length);
+    t->call.string.length = 1 + below(t->operand.length - 1);
+    return true;
+}
+
+static bool ends_behind_lock(struct trial *t)
+{
+    if (!is_step(t))
+        return false;
+    if (!has_lock(t))
+        put_lock(t);
+    t->call.string.length = 1;
     return true;
 }
 
@@ -740,6 +751,7 @@ const struct spoil spoils[] = {
     {R8_BYTE, "a wide form with reg 4 to 7", wide_reg_4},
     {R8_BYTE, "an encode of memory", encode_of_memory},
     {R9_STRING_ENDS, "the string ends", string_cut},
+    {R9_STRING_ENDS, "the string ends behind F0", ends_behind_lock},
     {R9_STRING_ENDS, "the string ends behind 67", ends_behind_address_size},
     {R10_UD, "LOCK", lock},
     {R10_UD, "KL feature off", kl_off},
@@ -781,9 +793,10 @@ static int some_spoil(void)
     return chosen;
 }
 
+/* An idle step has no instruction, which all numbers from 8 on are about. */
 static void apply(struct trial *t, int chosen)
 {
-    if (!spoils[chosen].apply(t))
+    if ((is_idle(&t->call) && spoils[chosen].number >= R8_BYTE) || !spoils[chosen].apply(t))
         return;
     t->spoils[1] = t->spoils[0];
     t->spoils[0] = chosen;
