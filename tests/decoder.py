@@ -156,7 +156,7 @@ def instruction(reader):
 def decode(string):
     reader = Reader(string)
     try:
-        text = instruction(reader)
+        text = instruction(reader) if string else "idle"
     except Refused as refused:
         return f"refused {refused}"
     return f"{text} ; {reader.at} bytes"
@@ -320,7 +320,7 @@ def compare(what, strings, expected, found):
 def listed():
     """The instructions among the lines of the vector file, without the bytes after them."""
     for line in vectors():
-        length = re.search("; ([0-9]+) bytes$", answer(line))
+        length = re.search("; ([1-9][0-9]*) bytes$", answer(line))
         if length:
             yield bytes.fromhex(line[:32])[: int(length[1])]
 

@@ -185,6 +185,9 @@ class Instruction:
 
 
 def decode(string):
+    """None for an empty string: an idle step has no instruction."""
+    if not string:
+        return None
     text = decoder.decode(string)
     if refused := re.fullmatch("refused (.*)", text):
         raise Refused(int(refused[1]))
@@ -322,6 +325,8 @@ def step(machine, processor, cpu, memory, random, string):
     refuse_if(len(memory) > MEMORY_LIMIT, 6)
     refuse_if(len(random) not in [0, RANDOM_SIZE], 7)
     i = decode(string)
+    if i is None:
+        return machine, bytes(cpu.bytes)
     refuse_if(undefined(m, cpu, i), 10)
     refuse_if(cpu.control & CR0_TS, 11)
     if i.encode:

@@ -258,7 +258,9 @@ def k1_to_k7(s):
     changed = [n for n in range(16) if s.cpu.xmm(n) != Cpu(cpu).xmm(n)]
     expect("K6", (changed, s.cpu.xmm(8)), ([8], key_locker.cipher(KEY_256, block(0x48))))
     expect("K6", s.step("K6-memory-89", k6, cpu=cpu, memory=(bytes(26) + h256)[:89]), 14)
-    expect("K7", s.step("K7-empty", ""), 9)
+    machine, cpu = s.machine, record(blocks, rip=0x1000, rflags=2**64 - 1)
+    expect("K7", s.step("K7-empty", "", cpu=cpu), 0)
+    expect("K7", (s.machine, bytes(s.cpu.bytes)), (machine, cpu))
 
 
 def k8_to_k12(s):
@@ -767,6 +769,41 @@ def rip(s):
         expect(f"rip-{name}", s.cpu.rip, after)
 
 
+def idle_step(s, name, processor=0, memory=b"", random=b"", **fields):
+    """An empty string, with RIP and flags that an instruction would not leave: nothing changes."""
+    machine, cpu = s.machine, record({0: PLAIN}, rip=2**64 - 1, rflags=2**64 - 1, **fields)
+    expect(name, s.step(name, "", processor, cpu, memory, random), 0)
+    expect(name, (s.machine, bytes(s.cpu.bytes)), (machine, cpu))
+
+
+def idle(s):
+    """Whatever is off, at any CPL; and in a list, between loads, copies and uses."""
+    for name, off, control in [
+        ("kl-off", model.KL, CONTROL),
+        ("firmware-off", model.FIRMWARE, CONTROL),
+        ("all-off", model.ALL_FEATURES, 0),
+        ("cr4-kl-off", 0, CONTROL & ~model.CR4_KL),
+        ("osfxsr-off", 0, CONTROL & ~model.CR4_OSFXSR),
+        ("em", 0, CONTROL | model.CR0_EM),
+        ("ts", 0, CONTROL | model.CR0_TS),
+    ]:
+        s.power_on(f"idle-{name}-power-on", count=2, features=model.ALL_FEATURES & ~off)
+        idle_step(s, f"idle-{name}", control=control)
+    for cpl in range(1, 4):
+        idle_step(s, f"idle-cpl-{cpl}", cpl=cpl)
+    h = handle(A, KEY_128)
+    load(s, "idle-load", A)
+    idle_step(s, "idle-loaded", random=block(0xF0) * 3)
+    use(s, "idle-loaded-use", ENC_128, h)
+    expect_opened(s, "idle-loaded", key_locker.cipher(KEY_128, PLAIN))
+    s.write("idle-copy-out", 0, COPY_OUT)
+    idle_step(s, "idle-pending", 1, memory=h)
+    s.write("idle-copy-in", 1, COPY_IN)
+    idle_step(s, "idle-copied-in", 1, memory=h, cpl=3)
+    use(s, "idle-copied-in-use", ENC_128, h, processor=1)
+    expect_opened(s, "idle-copied-in", key_locker.cipher(KEY_128, PLAIN))
+
+
 def encode_registers(s):
     """XMM4 to XMM6 become zero, XMM3 only where the handle reaches it, and no other register changes; the whole destination is written."""
     s.power_on("encode-power-on", count=1)
@@ -885,6 +922,7 @@ def values(s):
     copy_statuses(s)
     flags(s)
     rip(s)
+    idle(s)
     encode_registers(s)
     whole_record(s)
     cpuid_features(s)
@@ -916,6 +954,8 @@ def step_refusals(s):
         (7, "random-49", dict(string=ENCODE_128, random=bytes(49))),
         (8, "byte-bad", dict(string="f0 f3 0f 38 db", cpu=record(control=0))),
         (9, "string-short", dict(string="f0 f3 0f 38 dc", cpu=record(control=0))),
+        (9, "lock-alone", dict(string="f0", cpu=record(control=0))),
+        (9, "f3-alone", dict(string="f3", cpu=record(control=0))),
         (10, "lock", dict(string="f0" + ENC_128, cpu=record(control=ts, **noncanonical))),
         (10, "lock-encode", dict(string="f0" + ENCODE_128, cpu=record(rcx=8))),
         (10, "lock-load", dict(string="f0" + LOAD, cpu=record(cpl=3))),
@@ -1071,6 +1111,7 @@ def lent_records(s):
         expect(name, s.settle(f"lent-{name}-settle", 2), 1)
         if at in [0, *range(920, 924)]:
             expect(name, s.taken(f"lent-{name}-taken"), 1)
+            expect(name, s.step(f"lent-{name}-idle", "", processor=2, cpu=b"", random=bytes(1)), 1)
     s.lend("lent-present", present.to_bytes())
     expect("present", s.reset("lent-present-reset"), 0)
     for code in [GOOD, BAD]:
@@ -1161,7 +1202,8 @@ def random_string(rng):
     lock = often(rng, lambda: b"", lambda: b"\xf0", 0.97)
     size = often(rng, lambda: b"", lambda: b"\x67", 0.6)
     string = lock + size + b"\xf3" + rex + bytes([0x0F, 0x38, form.opcode]) + operands
-    return often(rng, lambda: string + rng.randbytes(rng.choice([0, 0, 3])), lambda: decoder.altered(rng, string), 0.95)
+    string = often(rng, lambda: string + rng.randbytes(rng.choice([0, 0, 3])), lambda: decoder.altered(rng, string), 0.95)
+    return often(rng, lambda: string, lambda: b"", 0.95)
 
 
 def random_handle(rng, iwkey):
@@ -1186,7 +1228,7 @@ def aim(rng, cpu, string, at):
         i = model.decode(string)
     except Refused:
         return
-    if not i.use:
+    if i is None or not i.use:
         return
     off = at - model.effective_address(cpu, i)[0]
     base, *others = i.memory[1:-1].replace("-", "+").split("+")
@@ -1218,6 +1260,8 @@ def random_step(rng, s, name):
     processor = often(rng, lambda: rng.randrange(s.machine[0] or 1), lambda: rng.randrange(20), 0.97)
     string = random_string(rng)
     cpu = random_cpu(rng)
+    if not string and rng.random() < 0.5:
+        cpu.bytes[401] = rng.randrange(16)
     entry = s.machine[2 + 51 * processor :][:50]
     h = random_handle(rng, IWKey.from_bytes(entry) if processor < 16 else A)
     before = rng.randrange(64)
