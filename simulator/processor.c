@@ -50,7 +50,11 @@ static void run_step(struct simulator *s)
     print_statement(s);
     const struct field *rip = register_named((struct word){"rip", 3});
     uint64_t before = get_field(this_cpu(s), rip);
-    if (execute(s, call_of(s->left.data, s->left.len), s->left.data, s->left.len, &s->right))
+    if (!execute(s, call_of(s->left.data, s->left.len), s->left.data, s->left.len, &s->right))
+        return;
+    if (s->left.len == 0)
+        print_answer(s, "0 done: an idle step");
+    else
         print_answer(s, "0 done, ZF %u: RIP is %" PRIu64 " bytes on", s->last.zf, get_field(this_cpu(s), rip) - before);
 }
 

@@ -96,10 +96,11 @@ def test_random(tmp):
     """Random calls, with all that the model says of each."""
     for seed in [1, 2]:
         with contextlib.redirect_stdout(io.StringIO()) as text:
-            traces.RandomTrace(seed).run(150)
+            traces.RandomTrace(seed).run(250)
         summary = must(simulate(text.getvalue(), "--quiet"), 0, f"seed {seed}").stdout
-        need(" 160 calls" in summary and int(re.search("(\\d+) expectations", summary)[1]) > 450, summary)
+        need(" 260 calls" in summary and int(re.search("(\\d+) expectations", summary)[1]) > 750, summary)
         need(re.search("step 67 f30f38d.*\nexpect done\nexpect zf 0\n", text.getvalue()), f"seed {seed}: no handle opens by a string with 67")
+        need(re.search("step empty.*\nexpect done\n", text.getvalue()), f"seed {seed}: no idle step")
         need(re.search("^taken\nexpect done\nexpect machine = .*01000001$", text.getvalue(), re.M), f"seed {seed}: no backup is taken")
 
 
@@ -142,6 +143,16 @@ cpu 0 step 90
 -- 8 the string has a byte that no instruction has there
 cpu 0 step f3 0f
 -- 9 the string ends inside an instruction
+cpu 0 cpl 4 step empty
+-- 5 CPL above 3, or a zero field
+cpu 0 step empty random 00
+-- 7 random data neither 0 nor 48 bytes
+cpu 0 set control = 8
+cpu 0 cpl 3 step empty
+-- 0 done: an idle step
+cpu 0 step f0
+-- 9 the string ends inside an instruction
+cpu 0 set control = 3
 cpu 0 step f0 f3 0f 38 dc c0
 -- 10 #UD: LOCK,
 cpu 0 cpl 3 loadiwkey 00*48
@@ -262,7 +273,7 @@ def test_unmet_by_refused(tmp):
     """What a refused call would have answered is not taken from the call before."""
     head = "power-on 1\ncpu 0 loadiwkey 00*48\ncpu 0 read 0x990\ncpu 0 cpuid 0x19\nkeyring records 2\nkeyring add 00*12 00*48\nkeyring lookup 00*12\n"
     for refused, expect in [
-        ("cpu 0 step empty", "zf 0"),
+        ("cpu 0 step f0", "zf 0"),
         ("cpu 0 read 0x992", "value 0"),
         ("cpu 0 cpl 4 cpuid 0x19", "eax 7"),
         ("cpu 0 cpl 4 cpuid 0", "edx 0"),
@@ -276,6 +287,7 @@ def test_unmet_words(tmp):
     """What was found instead."""
     for call, expect, found in [
         ("cpu 0 loadiwkey 00*48", "zf 1", "ZF is 0"),
+        ("cpu 0 set rflags = 0x42\ncpu 0 step empty", "zf 0", "ZF is 1"),
         ("cpu 0 read 0x990", "value 2", "the value is 0"),
         ("cpu 0 cpuid 7", "ecx 0x400000", "ecx is 0x800000"),
         ("cpu 0 cpuid 0x19", "ebx 5", "ebx is 0x15"),
@@ -547,6 +559,7 @@ def test_valgrind(tmp):
         (["-q", ROOT / "tests/traces/refusals.trace"], 0),
         ([ROOT / "tests/traces/cpuid.trace"], 0),
         ([ROOT / "tests/traces/address-size.trace"], 0),
+        ([ROOT / "tests/traces/idle.trace"], 0),
         ([ROOT / "tests/traces/keyring.trace"], 0),
         (["--help"], 0),
     ]:

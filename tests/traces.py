@@ -509,6 +509,11 @@ class RandomTrace(RandomStatements):
         string = bytes([0xF3, 0x0F, 0x38, self.some(0xDC, 0xDD, 0xD8, 0xFA), self.random.randrange(256)]) + self.random.randbytes(self.random.randrange(6))
         return f"step {self.some('', '67 ')}{string.hex()}"
 
+    def idle(self):
+        """An empty string; or one that is cut to its prefixes."""
+        string = self.some("empty", "empty", "empty", "f0", "67", "f0 67", "f3")
+        return f"step {string}{self.some('', '', ' random 00', f' random {self.hex(48)}')}"
+
     def backup(self):
         return self.some("write 0xD91 1", "write 0xD91 1", "write 0xD92 1", "write 0xD92 0", "write 0xD91 3", "read 0x990", "read 0x991", "read 0xD91")
 
@@ -520,7 +525,7 @@ class RandomTrace(RandomStatements):
         if self.random.random() < 0.18:
             return self.some("taken", "taken", "taken", "settle good", "settle bad", "settle 2", "sleep old", "sleep new", "sleep junk", "sleep 3")
         cpl = self.some("", "", "", "", " cpl 3")
-        what = self.random.choices([self.load, self.encode, self.use, self.raw, self.cpuid, self.backup], [3, 3, 8, 2, 2, 5])[0]
+        what = self.random.choices([self.load, self.encode, self.use, self.raw, self.idle, self.cpuid, self.backup], [3, 3, 8, 2, 2, 2, 5])[0]
         return f"cpu {self.random.randrange(3) if self.random.random() < 0.98 else 3}{cpl} {what()}"
 
     def expectations(self, text):
