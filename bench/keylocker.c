@@ -16,9 +16,9 @@ enum { WIDE_BLOCKS = 8, HANDLES = 64, PROCESSORS = 16 };
 
 // ---- what is called
 
-// ENCRYPT_32 is ENCRYPT with the address-size prefix, 67.
+// ENCRYPT_32 is ENCRYPT with the address-size prefix, 67; IDLE an empty string.
 enum op {
-    ENCODE, ENCRYPT, DECRYPT, ENCRYPT_WIDE, DECRYPT_WIDE, LOAD, WRITE, READ, CPUID, BAD_STRING, ILLEGAL, ENCRYPT_32, TAKEN, OPS
+    ENCODE, ENCRYPT, DECRYPT, ENCRYPT_WIDE, DECRYPT_WIDE, LOAD, WRITE, READ, CPUID, BAD_STRING, ILLEGAL, ENCRYPT_32, TAKEN, IDLE, OPS
 };
 
 static size_t blocks_of(int op) { return op == ENCRYPT_WIDE || op == DECRYPT_WIDE ? WIDE_BLOCKS : 1; }
@@ -67,7 +67,7 @@ static void require(bool holds, const char *what)
 static uint32_t step(int op, uint8_t size, uint8_t processor)
 {
     uint8_t string[6] = {0x67, 0xf3, 0x0f, 0x38, strings[op][size][0], strings[op][size][1]};
-    size_t first = op == ENCRYPT_32 ? 0 : 1;
+    size_t first = op == IDLE ? sizeof string : op == ENCRYPT_32 ? 0 : 1;
     return keylocker_step(machine, sizeof machine, processor, cpu, sizeof cpu, memory, sizeof memory, random_data,
                           sizeof random_data, string + first, sizeof string - first);
 }
@@ -286,6 +286,7 @@ static const char *label_of(const struct row *row)
         [CPUID] = "CPUID leaf 0x19",       [BAD_STRING] = "a string refused",
         [ILLEGAL] = "AESENC%dKL, illegal handle",
         [ENCRYPT_32] = "AESENC%dKL behind 67", [TAKEN] = "taken",
+        [IDLE] = "an idle step",
     };
     char form[64];
     snprintf(form, sizeof form, "%s%s", names[row->op], row->count == 1 ? ", 1 processor" : "");
@@ -319,6 +320,7 @@ int main(void)
         {.op = READ, .alone = true},       {.op = CPUID, .alone = true},
         {.op = BAD_STRING, .alone = true}, {.op = BAD_STRING, .alone = true, .count = 1},
         {.op = ENCRYPT_32, .alone = true}, {.op = TAKEN, .alone = true},
+        {.op = IDLE, .alone = true},       {.op = IDLE, .alone = true, .count = 1},
     };
     size_t count = sizeof rows / sizeof *rows, other = sizeof others / sizeof *others;
 
