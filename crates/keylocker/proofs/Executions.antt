@@ -9,7 +9,7 @@ use lib.Dec.{eqb}
 use lib.ListN.{length, getD}
 use borrow.Author.Tests.{eqb-true, eq-eqb}
 use Rattle.bits.proofs.Choice.{cond-on, on-cond}
-use Rattle.model.specs.Calls.{PowerOn, StepCall, ReadCall, WriteCall, Call, step, read, write, settle, sleep, reset, taken, Answer}
+use Rattle.model.specs.Calls.{PowerOn, StepCall, ReadCall, WriteCall, Call, step, counter, read, write, settle, sleep, reset, taken, Answer}
 use Rattle.model.specs.Refusals.{first}
 use Rattle.model.specs.Execution.{powerOn, Run, run}
 use Rattle.model.specs.History.{nameAt, history}
@@ -28,8 +28,8 @@ use Rattle.model.proofs.Taken.{taken-unseen}
 use Rattle.model.proofs.Idle.{idle-lent, idle-unseen}
 use Rattle.keylocker.specs.Meaning.{called}
 use Rattle.keylocker.specs.Promises.{answer, gave, PowerOnPromise, StepPromise, ReadPromise}
-use Rattle.keylocker.specs.Executions.{Chain, ended, stepped, didRead, wrote, settled, slept, wasReset, wasTaken, Execution}
-use Rattle.keylocker.proofs.Finishing.{power-on-promised, cpuOf, valueOf, answer-as, promised, read-block, read-value, read-promised}
+use Rattle.keylocker.specs.Executions.{Chain, ended, stepped, counted, didRead, wrote, settled, slept, wasReset, wasTaken, Execution}
+use Rattle.keylocker.proofs.Finishing.{power-on-promised, cpuOf, bufferOf, valueOf, answer-as, promised, read-block, read-value, read-promised}
 
 -- ---- what is promised is what the model's calls give, one after another
 
@@ -54,13 +54,14 @@ ran-more {calls = calls} c a e r =
 
 chain-ran : {block last : List ℕ} {calls : List Call} {answers : List Answer} → Chain block calls answers last → Ran block calls answers last
 chain-ran ended = record { run = refl; left = refl }
-chain-ran (stepped s cpu n e l) = ran-more (step s) (answer n cpu 0) e (chain-ran l)
-chain-ran (didRead r old v n e l) = ran-more (read r) (answer n [] (cond (eqb n 0) v 0)) (e .answered) (chain-ran l)
-chain-ran (wrote w n e l) = ran-more (write w) (answer n [] 0) e (chain-ran l)
-chain-ran (settled s n e l) = ran-more (settle s) (answer n [] 0) e (chain-ran l)
-chain-ran (slept s n e l) = ran-more (sleep s) (answer n [] 0) e (chain-ran l)
-chain-ran (wasReset n e l) = ran-more reset (answer n [] 0) e (chain-ran l)
-chain-ran (wasTaken n e l) = ran-more taken (answer n [] 0) e (chain-ran l)
+chain-ran (stepped s cpu n e l) = ran-more (step s) (answer n cpu [] 0) e (chain-ran l)
+chain-ran (counted c cpu buffer n e l) = ran-more (counter c) (answer n cpu buffer 0) e (chain-ran l)
+chain-ran (didRead r old v n e l) = ran-more (read r) (answer n [] [] (cond (eqb n 0) v 0)) (e .answered) (chain-ran l)
+chain-ran (wrote w n e l) = ran-more (write w) (answer n [] [] 0) e (chain-ran l)
+chain-ran (settled s n e l) = ran-more (settle s) (answer n [] [] 0) e (chain-ran l)
+chain-ran (slept s n e l) = ran-more (sleep s) (answer n [] [] 0) e (chain-ran l)
+chain-ran (wasReset n e l) = ran-more reset (answer n [] [] 0) e (chain-ran l)
+chain-ran (wasTaken n e l) = ran-more taken (answer n [] [] 0) e (chain-ran l)
 
 module _ (p : PowerOn) (calls : List Call) (r : Run) (x : Execution p calls r) where
   powered : powerOnLent (x .lent) p .answer .number ≡ 0
@@ -144,9 +145,9 @@ module _ (block : List ℕ) (r : ReadCall) (old : ℕ) where
       read-promised block r old (given .number) found refl (λ e. cond-on (eq-eqb (given .number) 0 e) (given .value) old)
       (λ n. on-cond (λ (v : ℕ). v ≡ old) (eqb (given .number) 0) (given .value) old (λ t. absurd (n (eqb-true (given .number) 0 t))) (λ t. refl))
 
-  read-answer : answer (given .number) [] (cond (eqb (given .number) 0) found 0) ≡ given
+  read-answer : answer (given .number) [] [] (cond (eqb (given .number) 0) found 0) ≡ given
   read-answer =
-      ap (answer (given .number) []) (go (eqb (given .number) 0) ∙ sym (read-value block r old)) ∙ sym (answer-as block (read r))
+      ap (answer (given .number) [] []) (go (eqb (given .number) 0) ∙ sym (read-value block r old)) ∙ sym (answer-as block (read r))
     where
       go : (t : Bool) → cond t (cond t (given .value) old) 0 ≡ cond t (given .value) 0
       go true = refl
@@ -161,12 +162,14 @@ module _ (block : List ℕ) (old : ℕ) (l : List Call) where
   With c a = Chain block (c ∷ l) (a ∷ runLent (callLent block c .block) l .answers) (blockAfter (callLent block c .block) l)
 
   whole : (c : Call)
-      → gave (callLent block c .block) (callLent block c .answer .number) (cpuOf c (callLent block c .answer .cpu)) (valueOf c (callLent block c .answer .value))
+      → gave (callLent block c .block) (callLent block c .answer .number) (cpuOf c (callLent block c .answer .cpu))
+      (bufferOf c (callLent block c .answer .buffer)) (valueOf c (callLent block c .answer .value))
       ≡ callLent block c
-  whole c = promised block _ _ _ _ c refl refl refl
+  whole c = promised block _ _ _ _ _ c refl refl refl refl
 
   chain-more : (c : Call) → After c (callLent block c .block) → With c (callLent block c .answer)
   chain-more (step s) x = subst (With (step s)) (sym (answer-as block (step s))) (stepped s _ _ (whole (step s)) x)
+  chain-more (counter c) x = subst (With (counter c)) (sym (answer-as block (counter c))) (counted c _ _ _ (whole (counter c)) x)
   chain-more (read r) x =
       subst (With (read r)) (read-answer block r old)
       (didRead r old (found block r old) _ (read-found block r old) (subst (After (read r)) (read-block block r old) x))
@@ -190,7 +193,7 @@ module _ (block : List ℕ) (p : PowerOn) (size : length block ≡ machineSize) 
   unfolding powerOnLent
   on-lent =
       power-on-promised block p (powerOnLent block p .block) 0
-      (λ j. called (sym (ap (λ (x : Lent). x .answer .number) (cond-on (eq-eqb (length block) machineSize size) (into block (powerOn p)) (wrongSize block [])) ∙ ok) j) (powerOnLent block p .block))
+      (λ j. called (sym (ap (λ (x : Lent). x .answer .number) (cond-on (eq-eqb (length block) machineSize size) (into block (powerOn p)) (wrongSize block [] [])) ∙ ok) j) (powerOnLent block p .block))
 
   -- the value that a read finds before it is any
   pub execution-exists : (calls : List Call) (old : ℕ) → Execution p calls (runLent (powerOnLent block p .block) calls)

@@ -11,7 +11,7 @@ use lib.ListN.{length}
 use lib.Seq.{sets, getD-set-same}
 use borrow.Author.Tests.{eqb-true, eqb-false, eq-eqb, ne-eqb}
 use Rattle.bits.proofs.Choice.{cond-on, cond-off, on-cond}
-use Rattle.model.specs.Calls.{PowerOn, StepCall, ReadCall, Call, step, read, write, settle, sleep, reset, taken, onStep}
+use Rattle.model.specs.Calls.{PowerOn, StepCall, ReadCall, Call, step, counter, read, write, settle, sleep, reset, taken, onCpu}
 use Rattle.model.specs.Calls as calls
 use Rattle.model.specs.Execution.{powerOnRefusal, refused, perform, numberOf, call, powerOn}
 use Rattle.model.specs.Layout.{entrySize, machineSize, entryBytes, machineBytes, machineAt}
@@ -35,13 +35,17 @@ use Rattle.machine.specs.declared.Identified as machineCall
 use Rattle.keylocker.specs.Meaning.{called, calledOf, answered, finished, valueLeft, readAnswered, identified}
 use Rattle.keylocker.specs.Promises.{answer, gave, PowerOnPromise, StepPromise, ReadPromise}
 
--- ---- what an answer can hold: a CPU record if the call is a step, a value if it is a read
+-- ---- what an answer can hold: a CPU record if the call is a step or a counter call, a buffer if it is a counter call, a value if it is a read
 
 abbrev pub cpuOf : Call → List ℕ → List ℕ
-cpuOf c cpu = onStep (λ s. cpu) [] c
+cpuOf c cpu = onCpu (λ s. cpu) (λ k. cpu) [] c
+
+abbrev pub bufferOf : Call → List ℕ → List ℕ
+bufferOf c buffer = onCpu (λ s. []) (λ k. buffer) [] c
 
 abbrev pub valueOf : Call → ℕ → ℕ
 valueOf (step s) v = 0
+valueOf (counter c) v = 0
 valueOf (read r) v = v
 valueOf (write w) v = 0
 valueOf (settle s) v = 0
@@ -50,11 +54,12 @@ valueOf reset v = 0
 valueOf taken v = 0
 
 abbrev shown : Call → calls.Answer → calls.Answer
-shown c a = answer (a .number) (cpuOf c (a .cpu)) (valueOf c (a .value))
+shown c a = answer (a .number) (cpuOf c (a .cpu)) (bufferOf c (a .buffer)) (valueOf c (a .value))
 
 performed-as : (m : Machine) (c : Call) → perform m c .answer ≡ shown c (perform m c .answer)
 unfolding perform
 performed-as m (step s) = refl
+performed-as m (counter c) = refl
 performed-as m (read r) = refl
 performed-as m (write w) = refl
 performed-as m (settle s) = refl
@@ -64,6 +69,7 @@ performed-as m taken = refl
 
 refused-as : (n : ℕ) (m : Machine) (c : Call) → refused n m c .answer ≡ shown c (refused n m c .answer)
 refused-as n m (step s) = refl
+refused-as n m (counter c) = refl
 refused-as n m (read r) = refl
 refused-as n m (write w) = refl
 refused-as n m (settle s) = refl
@@ -78,11 +84,12 @@ answer-as block c =
     on-cond (λ (x : Lent). x .answer ≡ shown c (x .answer)) (eqb (length block) machineSize) _ _
     (λ e. by-number m c (λ o. o .answer ≡ shown c (o .answer)) (λ f. performed-as m c) (λ f. refused-as _ m c)) (λ e. refused-as 1 m c)
 
--- number and block, and CPU record and value where there are any, are all
-pub promised : (block after : List ℕ) (n : ℕ) (cpu : List ℕ) (v : ℕ) (c : Call) → called n after ≡ calledOf (callLent block c)
-    → cpu ≡ callLent block c .answer .cpu → v ≡ callLent block c .answer .value → gave after n (cpuOf c cpu) (valueOf c v) ≡ callLent block c
-promised block after n cpu v c e f g =
-    (λ j. gave (e j .block) (e j .number) (cpuOf c (f j)) (valueOf c (g j)))
+-- number and block, and CPU record, buffer and value where there are any, are all
+pub promised : (block after : List ℕ) (n : ℕ) (cpu buffer : List ℕ) (v : ℕ) (c : Call) → called n after ≡ calledOf (callLent block c)
+    → cpu ≡ callLent block c .answer .cpu → buffer ≡ callLent block c .answer .buffer → v ≡ callLent block c .answer .value
+    → gave after n (cpuOf c cpu) (bufferOf c buffer) (valueOf c v) ≡ callLent block c
+promised block after n cpu buffer v c e f b g =
+    (λ j. gave (e j .block) (e j .number) (cpuOf c (f j)) (bufferOf c (b j)) (valueOf c (g j)))
     ∙ (λ j. record { block = callLent block c .block; answer = sym (answer-as block c) j })
 
 -- ---- calls that are lent the block alone
@@ -105,38 +112,40 @@ module _ (block : List ℕ) (c : Call) where
 
   -- a block of another length
   pub short-block : (length block ≡ machineSize → ⊥)
-      → gave block 1 (cpuOf c (callLent block c .answer .cpu)) (valueOf c (callLent block c .answer .value)) ≡ callLent block c
-  short-block h = promised block block 1 _ _ c (short-called h) refl refl
+      → gave block 1 (cpuOf c (callLent block c .answer .cpu)) (bufferOf c (callLent block c .answer .buffer)) (valueOf c (callLent block c .answer .value))
+      ≡ callLent block c
+  short-block h = promised block block 1 _ _ _ c (short-called h) refl refl refl
 
   pub called-of : (after : List ℕ) (n : ℕ) (m : Machine) (o : Outcome) → length block ≡ machineSize → m ≡ machineAt block → o ≡ outcomeOf (call m c)
       → called n after ≡ finished block o
-      → gave after n (cpuOf c (callLent block c .answer .cpu)) (valueOf c (callLent block c .answer .value)) ≡ callLent block c
+      → gave after n (cpuOf c (callLent block c .answer .cpu)) (bufferOf c (callLent block c .answer .buffer)) (valueOf c (callLent block c .answer .value))
+      ≡ callLent block c
   unfolding callLent
   called-of after n m o h r e f =
-      promised block after n _ _ c
+      promised block after n _ _ _ c
       (f ∙ ap (finished block) (e ∙ ap (λ (x : Machine). outcomeOf (call x c)) r) ∙ finished-of block (call (machineAt block) c)
       ∙ sym (ap calledOf (cond-on (eq-eqb (length block) machineSize h) _ _)))
-      refl refl
+      refl refl refl
 
 -- ---- power-on
 
 module _ (block : List ℕ) (p : PowerOn) where
   -- no CPU record, no value
-  power-on-as : powerOnLent block p .answer ≡ answer (powerOnLent block p .answer .number) [] 0
+  power-on-as : powerOnLent block p .answer ≡ answer (powerOnLent block p .answer .number) [] [] 0
   unfolding powerOnLent
   power-on-as =
-      let P : calls.Answer → Type 0 = λ a. a ≡ answer (a .number) [] 0 in
-      on-cond (λ (x : Lent). P (x .answer)) (eqb (length block) machineSize) (into block (powerOn p)) (wrongSize block [])
+      let P : calls.Answer → Type 0 = λ a. a ≡ answer (a .number) [] [] 0 in
+      on-cond (λ (x : Lent). P (x .answer)) (eqb (length block) machineSize) (into block (powerOn p)) (wrongSize block [] [])
       (λ e. on-cond (λ (o : calls.Outcome). P (o .answer)) (eqb (powerOnRefusal p) 0) _ _ (λ f. refl) (λ f. refl)) (λ e. refl)
 
   pub power-on-promised : (after : List ℕ) (n : ℕ) → called n after ≡ calledOf (powerOnLent block p) → PowerOnPromise block p after n
   power-on-promised after n e =
-      (λ j. gave (e j .block) (e j .number) [] 0) ∙ (λ j. record { block = powerOnLent block p .block; answer = sym power-on-as j })
+      (λ j. gave (e j .block) (e j .number) [] [] 0) ∙ (λ j. record { block = powerOnLent block p .block; answer = sym power-on-as j })
 
   pub power-on-short : (length block ≡ machineSize → ⊥) → PowerOnPromise block p block 1
   unfolding powerOnLent
   power-on-short h =
-      power-on-promised block 1 (sym (ap calledOf (cond-off (ne-eqb (length block) machineSize h) (into block (powerOn p)) (wrongSize block []))))
+      power-on-promised block 1 (sym (ap calledOf (cond-off (ne-eqb (length block) machineSize h) (into block (powerOn p)) (wrongSize block [] []))))
 
   pub power-on-called : (after : List ℕ) (n : ℕ) (o : Outcome) → length block ≡ machineSize → o ≡ outcomeOf (powerOn p) → called n after ≡ finished block o
       → PowerOnPromise block p after n
@@ -144,7 +153,7 @@ module _ (block : List ℕ) (p : PowerOn) where
   power-on-called after n o h e f =
       power-on-promised after n
       (f ∙ ap (finished block) e ∙ finished-of block (powerOn p)
-      ∙ sym (ap calledOf (cond-on (eq-eqb (length block) machineSize h) (into block (powerOn p)) (wrongSize block []))))
+      ∙ sym (ap calledOf (cond-on (eq-eqb (length block) machineSize h) (into block (powerOn p)) (wrongSize block [] []))))
 
 -- ---- a read
 
@@ -178,7 +187,8 @@ module _ (block : List ℕ) (r : ReadCall) (old : ℕ) where
   read-promised n v e f k =
       record {
         answered =
-            promised block block n (given-answer .cpu) (cond (eqb n 0) v 0) (read r) (λ j. called (e j) (sym read-block j)) refl
+            promised block block n (given-answer .cpu) [] (cond (eqb n 0) v 0) (read r) (λ j. called (e j) (sym read-block j)) refl
+            (λ j. sym (answer-as block (read r)) j .buffer)
             (on-cond (λ (x : ℕ). x ≡ given-answer .value) (eqb n 0) v 0 (λ t. f (eqb-true n 0 t))
             (λ t. sym (read-value ∙ cond-off (ap (λ (x : ℕ). eqb x 0) (sym e) ∙ t) (given-answer .value) 0)));
         kept = k;
@@ -220,8 +230,8 @@ module _ (block : List ℕ) (s : StepCall) where
   pub step-short : (length block ≡ machineSize → ⊥) → StepPromise block s block (s .cpu) 1
   unfolding callLent
   step-short h =
-      promised block block 1 (s .cpu) _ (step s) (short-called block (step s) h)
-      (sym (ap (λ (x : Lent). x .answer .cpu) (cond-off (ne-eqb (length block) machineSize h) _ _))) refl
+      promised block block 1 (s .cpu) _ _ (step s) (short-called block (step s) h)
+      (sym (ap (λ (x : Lent). x .answer .cpu) (cond-off (ne-eqb (length block) machineSize h) _ _))) refl refl
 
   pub step-called : (after cpu : List ℕ) (r : ℕ) (m n : Machine) (a : Answer) → length block ≡ machineSize → m ≡ machineAt block
       → left a n cpu ≡ leftOf (call m (step s)) → called r after ≡ answered block n a → StepPromise block s after cpu r
@@ -230,9 +240,9 @@ module _ (block : List ℕ) (s : StepCall) where
       let o = call (machineAt block) (step s) in
       let e = d ∙ ap (λ (x : Machine). leftOf (call x (step s))) w in
       let here = eq-eqb (length block) machineSize h in
-      promised block after r cpu _ (step s)
+      promised block after r cpu _ _ (step s)
       (f ∙ ap (λ (x : Left). answered block (x .machine) (x .answer)) e ∙ finished-of block o ∙ sym (ap calledOf (cond-on here _ _)))
-      ((λ j. e j .cpu) ∙ sym (ap (λ (x : Lent). x .answer .cpu) (cond-on here _ _))) refl
+      ((λ j. e j .cpu) ∙ sym (ap (λ (x : Lent). x .answer .cpu) (cond-on here _ _))) refl refl
 
   -- it changes one entry of the block: to write that is to write the machine
   pub step-block : (cpu : List ℕ) (m : Machine) (e : Processor) (a : Answer) → length block ≡ machineSize → m ≡ machineAt block

@@ -52,7 +52,7 @@ module _ (m : Machine) (c : Call) where
       pub outcome-refused : (n : ℕ) → n ≡ refusal (viewOf m) c → (n ≡ 0 → ⊥) → refusedWith m n ≡ outcomeOf (call m c)
       outcome-refused n p z = refused-by n z (stopped m c (found-valid m e h) n (sym p) z)
 
-      pub outcome-done : (n : Machine) → refusal (viewOf m) c ≡ 0 → perform m c ≡ done n [] 0 → doneWith n ≡ outcomeOf (call m c)
+      pub outcome-done : (n : Machine) → refusal (viewOf m) c ≡ 0 → perform m c ≡ done n [] [] 0 → doneWith n ≡ outcomeOf (call m c)
       outcome-done n r p = sym (ap outcomeOf (performed m c (found-valid m e h) r ∙ p))
 
       -- a call whose only other refusal is that of its code
@@ -60,7 +60,7 @@ module _ (m : Machine) (c : Call) where
         pub code-refused : k ≤ code → refusedWith m 2 ≡ outcomeOf (call m c)
         code-refused l = outcome-refused 2 (sym (r ∙ cond-on (le-leb k code l) 2 0)) (suc-ne-zero 1)
 
-        pub code-done : (n : Machine) → code < k → perform m c ≡ done n [] 0 → doneWith n ≡ outcomeOf (call m c)
+        pub code-done : (n : Machine) → code < k → perform m c ≡ done n [] [] 0 → doneWith n ≡ outcomeOf (call m c)
         code-done n l = outcome-done n (r ∙ cond-off (lt-leb k code l) 2 0)
 
 -- ---- refusals of calls that have few operands
@@ -88,7 +88,7 @@ reset-refusal v = refl
 module _ (p : PowerOn) where
   power : Bool → calls.Outcome
   power t =
-      cond (eqb (cond (not t) 1 0) 0) (done (fresh (p .count) (p .features)) [] 0)
+      cond (eqb (cond (not t) 1 0) 0) (done (fresh (p .count) (p .features)) [] [] 0)
       (record { machine = fresh 0 0; answer = record { number = cond (not t) 1 0; cpu = []; buffer = []; value = 0 } })
 
   pub power-accepted : (validCount (p .count) && validFeatures (p .features)) ≡ true

@@ -66,7 +66,7 @@ pub neither-12-nor-13 : (v : View) (s : StepCall) (what : Instruction) (lock : B
 unfolding refusal tests
 neither-12-nor-13 v s what lock bytes f p d r q size =
     first-holding (λ n. not (eqb n 12 || eqb n 13)) (tests v (operands (step s))) tt
-    (holding-from (λ n. not (eqb n 12 || eqb n 13)) 10 (tests v (operands (step s))) tt (not-now fault-12, (not-now fault-13, (λ e. tt, tt))))
+    (holding-from (λ n. not (eqb n 12 || eqb n 13)) 11 (tests v (operands (step s))) tt (not-now fault-12, (not-now fault-13, (λ e. tt, tt))))
   where
     not-now : {b : Bool} → b ≡ false → b ≡ true → ⊥
     not-now e h = true≢false (sym h ∙ e)

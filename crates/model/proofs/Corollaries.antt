@@ -12,7 +12,7 @@ use lib.Seq.{append-snoc}
 use borrow.Author.Tests.{eqb-true, eq-eqb, ne-eqb, leb-true, le-leb}
 use Rattle.bits.proofs.Choice.{and-left, and-right, and-both, T-true, true-T, on-cond}
 use Rattle.model.specs.Numbers.{bit}
-use Rattle.model.specs.Calls.{PowerOn, Call, step, read, write, settle, sleep, reset, taken}
+use Rattle.model.specs.Calls.{PowerOn, Call, step, counter, read, write, settle, sleep, reset, taken}
 use Rattle.model.specs.Refusals.{refusal}
 use Rattle.model.specs.Execution.{run, powerOn}
 use Rattle.model.specs.History.{History, atFirst, viewGiven, noBackupIn, noBackupOf, nameAt, renamed, loads, sent, copiedOut, gets, settledNames, nameKept, moved, next, historyFrom, history}
@@ -105,6 +105,7 @@ module _ (p : PowerOn) (past : List Call) (f g f′ g′ : ℕ → Bool) (s : St
   moved-pass (step c) =
       on-cond (Pass f′ g′) (loads c) (renamed (c .processor) (suc (length past)) h) h
       (λ e. renamed-pass (c .processor) (suc (length past)) (s .new)) (λ e. kept)
+  moved-pass (counter c) = kept
   moved-pass (read r) = kept
   moved-pass (write w) =
       let out = copiedOut past (w .processor) h in

@@ -11,7 +11,7 @@ use borrow.Author.Tests.{eqb-true, eqb-false, eq-eqb, ne-eqb}
 use lib.ListN.{getD, set, List·getD-map}
 use lib.Seq.{set-getD, getD-set-other, map-set-same}
 use Rattle.bits.proofs.Choice.{cond-on, cond-off}
-use Rattle.model.specs.Calls.{StepCall, ReadCall, Call, step, read, write, settle, sleep, reset, taken, onStep, Outcome}
+use Rattle.model.specs.Calls.{StepCall, ReadCall, Call, step, counter, read, write, settle, sleep, reset, taken, onStep, Outcome}
 use Rattle.model.specs.Validity.{valid}
 use Rattle.model.specs.Refusals.{refusal}
 use Rattle.isa.specs.Decode.{decode}
@@ -33,6 +33,7 @@ use Rattle.model.specs.declared.Machine.{Machine}
 pub by-step : {A : Type 0} (f : StepCall → A) (d : A) (Q : Call → A → Type 0) → ((s : StepCall) → Q (step s) (f s)) → ((c : Call) → Q c d)
     → (c : Call) → Q c (onStep f d c)
 by-step f d Q g h (step s) = g s
+by-step f d Q g h (counter c) = h (counter c)
 by-step f d Q g h (read r) = h (read r)
 by-step f d Q g h (write w) = h (write w)
 by-step f d Q g h (settle s) = h (settle s)
@@ -50,6 +51,7 @@ step-only {A} f Q g c x =
 performed-number : (m : Machine) (c : Call) → perform m c .answer .number ≡ 0
 unfolding perform
 performed-number m (step s) = refl
+performed-number m (counter c) = refl
 performed-number m (read r) = refl
 performed-number m (write w) = refl
 performed-number m (settle s) = refl

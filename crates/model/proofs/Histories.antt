@@ -19,7 +19,7 @@ use Rattle.model.specs.Forms.{noBackup, keySource}
 use Rattle.model.specs.Instructions.{plainKey, mixedWith, loadedKey, executed}
 use Rattle.model.specs.Backup.{Copied, copyOut, copyIn, written, settled, withTaken, storeKept, woken}
 use Rattle.model.specs.Execution.{zeroPlatform, fresh, viewOf, perform, numberOf, call, run}
-use Rattle.model.specs.Calls.{PowerOn, StepCall, WriteCall, Call, step, read, write, settle, sleep, reset, taken}
+use Rattle.model.specs.Calls.{PowerOn, StepCall, WriteCall, Call, step, counter, read, write, settle, sleep, reset, taken}
 use Rattle.model.specs.Validity.{valid}
 use Rattle.model.specs.Refusals.{View, refusal}
 use Rattle.model.specs.History.{History, atFirst, viewGiven, callAt, noBackupIn, noBackupOf, loadIn, makes, keyMade, keyIn, keyOf, nameAt, renamed, loads, copiesOut, sent, copiedOut, gets, settledNames, nameKept, wokenNames, moved, next, historyFrom, refusals}
@@ -155,6 +155,7 @@ no-backup-small past (suc i) = go (callAt past i)
   where
     go : (c : Call) → noBackupIn c < 2
     go (step s) = omega arith
+    go (counter c) = omega arith
     go (read r) = omega arith
     go (write w) = omega arith
     go (settle s) = omega arith
@@ -178,6 +179,7 @@ key-no-backup p past (suc i) t =
 
     go : (c : Call) → T (loadsKey c) → keyIn c .«no_backup» ≡ noBackupIn c
     go (step s) t = made s (loadIn (decode (s .string))) t
+    go (counter c) t = refl
     go (read r) t = refl
     go (write w) t = refl
     go (settle s) t = refl
@@ -540,6 +542,12 @@ more-past p past c m h inv =
       givens = every-more (given p past) (given p (past ++ (c ∷ []))) (given-more p past (c ∷ [])) h (inv .givens);
     }
 
+-- a call that leaves machine and names
+left-moved : (p : PowerOn) (past : List Call) (c : Call) (m : Machine) (h : History) → Holds p past m h → Moved p (past ++ (c ∷ [])) m h
+left-moved p past c m h inv =
+    let more = more-past p past c m h inv in
+    record { entries = more .entries; names = more .names; keys = more .keys; givens = more .givens }
+
 pub performed-moved : (p : PowerOn) (past : List Call) (c : Call) (m : Machine) (h : History) → Holds p past m h → refusal (viewGiven p) c ≡ 0
     → Moved p (past ++ (c ∷ [])) (perform m c .machine) (moved p past c h)
 unfolding perform moved
@@ -547,9 +555,8 @@ performed-moved p past (step s) m h inv a =
     let more = more-past p past (step s) m h inv in
     let below = processor-below (viewGiven p) (step s) (s .processor) a refl in
     step-moved p past (step s) m h more (s .processor) below s refl refl a
-performed-moved p past (read r) m h inv a =
-    let more = more-past p past (read r) m h inv in
-    record { entries = more .entries; names = more .names; keys = more .keys; givens = more .givens }
+performed-moved p past (counter c) m h inv a = left-moved p past (counter c) m h inv
+performed-moved p past (read r) m h inv a = left-moved p past (read r) m h inv
 performed-moved p past (write w) m h inv a =
     let more = more-past p past (write w) m h inv in
     let below = processor-below (viewGiven p) (write w) (w .processor) a refl in

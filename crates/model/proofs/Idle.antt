@@ -76,7 +76,7 @@ module _ (s : StepCall) (empty : s .string ≡ []) where
             record { number = sym e j; cpu = stepped s (processorAt m (s .processor) .key) (nothing j) .cpu; buffer = []; value = 0 }))
             (λ e. refl)
 
-    pub idle-kept : numberOf m (step s) ≡ 0 → call m (step s) ≡ done m (s .cpu) 0
+    pub idle-kept : numberOf m (step s) ≡ 0 → call m (step s) ≡ done m (s .cpu) [] 0
     idle-kept e = idle-call ∙ ap (λ (n : ℕ). record { machine = m; answer = idleAnswer n (step s) }) e
 
   -- so does the block, whatever it holds
@@ -93,7 +93,7 @@ module _ (s : StepCall) (empty : s .string ≡ []) where
       back e = on-cond (λ (b : List ℕ). b ≡ block) (eqb n 0) _ _ (λ q. bytes-at block e) (λ q. refl)
 
       go : (t : Bool) → eqb (length block) machineSize ≡ t
-          → cond t (into block (call (machineAt block) (step s))) (wrongSize block (s .cpu)) ≡ record { block = block; answer = idleAnswer (cond t n 1) (step s) }
+          → cond t (into block (call (machineAt block) (step s))) (wrongSize block (s .cpu) []) ≡ record { block = block; answer = idleAnswer (cond t n 1) (step s) }
       go true q =
           ap (into block) (idle-call (machineAt block))
           ∙ (λ j. record { block = back (eqb-true (length block) machineSize q) j; answer = idleAnswer n (step s) })

@@ -9,7 +9,7 @@ use lib.Dec.{eqb}
 use lib.ListN.{length}
 use borrow.Author.Tests.{eqb-true, eqb-false, eq-eqb, ne-eqb}
 use Rattle.bits.proofs.Choice.{cond-on, cond-off, on-cond}
-use Rattle.model.specs.Calls.{PowerOn, Call, lentCpu, Outcome}
+use Rattle.model.specs.Calls.{PowerOn, Call, lentCpu, lentBuffer, Outcome}
 use Rattle.model.specs.Execution.{powerOn, call, Run, run}
 use Rattle.model.specs.Demand3.{Demand3}
 use Rattle.model.specs.Status.{StatusRegisters}
@@ -46,7 +46,7 @@ pub call-lent : (m : Machine) (c : Call) → Shaped m
 unfolding callLent
 call-lent m c h =
     let b = machineBytes m in
-    cond-on (eq-eqb (length b) machineSize (bytes-length m h)) (into b (call (machineAt b) c)) (wrongSize b (lentCpu c))
+    cond-on (eq-eqb (length b) machineSize (bytes-length m h)) (into b (call (machineAt b) c)) (wrongSize b (lentCpu c) (lentBuffer c))
     ∙ ap (λ (x : Machine). into b (call x c)) (at-bytes m h)
     ∙ (λ j. record { block = block-after m c j; answer = call m c .answer })
 
@@ -66,7 +66,7 @@ power-on-lent block p =
     on-cond
     (λ (x : Lent).
     x .answer .number ≡ 0 → (length block ≡ machineSize) × (x .block ≡ machineBytes (powerOn p .machine)) × (powerOn p .answer .number ≡ 0))
-    (eqb (length block) machineSize) (into block (powerOn p)) (wrongSize block [])
+    (eqb (length block) machineSize) (into block (powerOn p)) (wrongSize block [] [])
     (λ t e. (eqb-true (length block) machineSize t, cond-on (eq-eqb (powerOn p .answer .number) 0 e) (machineBytes (powerOn p .machine)) block, e))
     (λ t e. absurd (suc-ne-zero 0 e))
 

@@ -14,7 +14,7 @@ use Rattle.bits.proofs.Choice.{cond-off, and-left, and-right, T-true, true-T, o
 use Rattle.isa.specs.Decode.{decodeAt, modrmOf, instructionOf}
 use Rattle.model.specs.Numbers.{bit}
 use Rattle.model.specs.Records.{zeroKey}
-use Rattle.model.specs.Calls.{PowerOn, ReadCall, WriteCall, Call, step, read, write, settle, sleep, reset, taken, Answer}
+use Rattle.model.specs.Calls.{PowerOn, ReadCall, WriteCall, Call, step, counter, read, write, settle, sleep, reset, taken, Answer}
 use Rattle.model.specs.Validity.{validProcessors, valid}
 use Rattle.model.specs.Refusals.{tests, refusal}
 use Rattle.model.specs.Instructions.{loadedKey, executed}
@@ -58,6 +58,7 @@ module _ (p : PowerOn) (q : ℕ) where
         go : (b : Bool) → T (not (b && eqb (s .processor) q)) → BackedUp (cond b (renamed (s .processor) (suc (length past)) h) h)
         go true u = renamed-other (s .processor) (suc (length past)) u
         go false u = t
+    moved-leaves (counter c) u = t
     moved-leaves (read r) u = t
     moved-leaves (write w) u = go (bit 0 (w .value)) (eqb (w .address) 0xD91) u
       where

@@ -60,7 +60,7 @@ passes v c e = first-clear (tests v (operands c)) tt e
 
 pub never-1 : (v : View) (c : Call) → T (not (eqb (refusal v c) 1))
 unfolding refusal tests
-never-1 v c = first-holding (λ n. not (eqb n 1)) (tests v (operands c)) tt (holding-from (λ n. not (eqb n 1)) 13 (tests v (operands c)) tt tt)
+never-1 v c = first-holding (λ n. not (eqb n 1)) (tests v (operands c)) tt (holding-from (λ n. not (eqb n 1)) 14 (tests v (operands c)) tt tt)
 
 -- that of a step is that of what is looked at in it
 pub step-asked : (v : View) (s : StepCall) → stepRefusal v (asked s) ≡ refusal v (step s)
@@ -88,7 +88,7 @@ pub no-register-fault : (v : View) (c : Call) → refusal v c ≡ 0 → operands
 unfolding tests
 no-register-fault v c e q =
     sym (ap (λ (o : Option Asked). of (λ a. ofDecoded (λ i lock bytes. instructionFault (v .features) (a .cpu) i bytes) (a .decoded)) o || operands c .registerFault (v .features)) q)
-    ∙ passes v c e .1 .1 .1 .1 .1 .1 .1 .1 .1 .1 .0
+    ∙ passes v c e .1 .1 .1 .1 .1 .1 .1 .1 .1 .1 .1 .0
 
 module _ (v : View) (s : StepCall) (accepted : refusal v (step s) ≡ 0) where
   pub cpu-length : length (s .cpu) ≡ cpuSize
@@ -97,11 +97,11 @@ module _ (v : View) (s : StepCall) (accepted : refusal v (step s) ≡ 0) where
 
   pub memory-length : length (s .memory) ≤ memoryLimit
   unfolding tests
-  memory-length = ltb-false memoryLimit (length (s .memory)) (passes v (step s) accepted .1 .1 .1 .1 .0)
+  memory-length = ltb-false memoryLimit (length (s .memory)) (passes v (step s) accepted .1 .1 .1 .1 .1 .0)
 
   pub random-length : randomLength (length (s .random)) ≡ true
   unfolding tests
-  random-length = not-false (randomLength (length (s .random))) (passes v (step s) accepted .1 .1 .1 .1 .1 .0)
+  random-length = not-false (randomLength (length (s .random))) (passes v (step s) accepted .1 .1 .1 .1 .1 .1 .0)
 
   -- refusal 12
   pub no-fault : (what : Instruction) (lock : Bool) (bytes : ℕ) → decode (s .string) ≡ decoded.Found what lock bytes
@@ -110,7 +110,7 @@ module _ (v : View) (s : StepCall) (accepted : refusal v (step s) ≡ 0) where
   no-fault what lock bytes q =
       sym (ap (ofDecoded (λ i lock bytes. instructionFault (v .features) (s .cpu) i bytes)) q)
       ∙ sym (or-false (ofInstruction (λ a i lock bytes. instructionFault (v .features) (a .cpu) i bytes) (operands (step s))))
-      ∙ passes v (step s) accepted .1 .1 .1 .1 .1 .1 .1 .1 .1 .1 .0
+      ∙ passes v (step s) accepted .1 .1 .1 .1 .1 .1 .1 .1 .1 .1 .1 .0
 
   -- refusal 14
   pub handle-inside : (what : Instruction) (lock : Bool) (bytes : ℕ) (f : Form) → decode (s .string) ≡ decoded.Found what lock bytes → formOf what ≡ some f
@@ -119,4 +119,4 @@ module _ (v : View) (s : StepCall) (accepted : refusal v (step s) ≡ 0) where
   handle-inside what lock bytes f q r =
       sym (ap (of (λ u. outside (length (s .memory)) (handleAddress (s .cpu) bytes (u .handle)) (u .size))) r)
       ∙ sym (ap (ofDecoded (λ i lock bytes. ofHandle (outside (length (s .memory))) (s .cpu) bytes i)) q)
-      ∙ passes v (step s) accepted .1 .1 .1 .1 .1 .1 .1 .1 .1 .1 .1 .1 .0
+      ∙ passes v (step s) accepted .1 .1 .1 .1 .1 .1 .1 .1 .1 .1 .1 .1 .1 .0

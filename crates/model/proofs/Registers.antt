@@ -13,7 +13,7 @@ use borrow.Author.Tests.{eq-eqb, ne-eqb, eqb-true, eqb-false}
 use Rattle.bits.proofs.Choice.{cond-on, cond-off, cond-of, T-true, true-T, on-cond}
 use Rattle.model.specs.Numbers.{bit}
 use Rattle.model.specs.Records.{processorLimit, zeroProcessor, noProcessor, processorAt, absent, holding, withKey, withCopyStatus, withBackup, withStore, withPending, withValid, withError, withConsumed}
-use Rattle.model.specs.Calls.{PowerOn, ReadCall, WriteCall, Call, step, read, write, settle, sleep, reset, taken, Answer, Outcome}
+use Rattle.model.specs.Calls.{PowerOn, ReadCall, WriteCall, Call, step, counter, read, write, settle, sleep, reset, taken, Answer, Outcome}
 use Rattle.model.specs.Refusals.{refusal}
 use Rattle.model.specs.Backup.{Copied, copyOut, copyIn, written, registerRead, settled, withTaken, storeKept, woken}
 use Rattle.model.specs.Execution.{fresh, perform, call, run, powerOn}
@@ -210,6 +210,7 @@ module _ (p : PowerOn) (past : List Call) (m : Machine) (h : History) (inv : Hol
   performed-status q b (step s) a =
       ap (λ (o : Outcome). processorAt (o .machine) q .«copy_status») (sym (call-performed m (step s) (number-told p past (step s) m h inv ∙ a)))
       ∙ step-status m s q
+  performed-status q b (counter c) a = refl
   performed-status q b (read r) a = refl
   performed-status q b (write w) a = written-status w (processor-below (viewGiven p) (write w) (w .processor) a refl) q
   performed-status q b (settle s) a = refl
@@ -222,6 +223,7 @@ module _ (p : PowerOn) (past : List Call) (m : Machine) (h : History) (inv : Hol
   unfolding perform moved withTaken woken
   performed-valid t v (step s) a =
       on-cond (λ g. platform .valid ≡ cond (backedUp g) 1 0) (loads s) (renamed (s .processor) (suc (length past)) h) h (λ e. v) (λ e. v)
+  performed-valid t v (counter c) a = v
   performed-valid t v (read r) a = v
   performed-valid t v (write w) a =
       copied-valid (w .processor) (processor-below (viewGiven p) (write w) (w .processor) a refl) (w .address) (w .value) v
@@ -237,6 +239,7 @@ module _ (p : PowerOn) (past : List Call) (m : Machine) (h : History) (inv : Hol
   performed-consumed : (c : Call) → refusal (viewGiven p) c ≡ 0 → perform m c .machine .platform .consumed ≡ consumedMoved past h c (platform .consumed)
   unfolding perform settled withTaken woken
   performed-consumed (step s) a = refl
+  performed-consumed (counter c) a = refl
   performed-consumed (read r) a = refl
   performed-consumed (write w) a =
       copied-consumed (w .processor) (processor-below (viewGiven p) (write w) (w .processor) a refl) (w .address) (w .value)
@@ -298,6 +301,7 @@ written-explained address value e f t = on-cond P (bit 0 value) _ _ (λ q. on-co
 performed-explained : (m : Machine) (c : Call) → T (explained (m .platform)) → T (explained (perform m c .machine .platform))
 unfolding perform settled withTaken woken
 performed-explained m (step s) t = t
+performed-explained m (counter c) t = t
 performed-explained m (read r) t = t
 performed-explained m (write w) t = written-explained (w .address) (w .value) (processorAt m (w .processor)) (m .platform) t
 performed-explained m (settle s) t =

@@ -23,7 +23,7 @@ use Rattle.model.specs.Numbers.{bit, part}
 use Rattle.model.specs.Records.{processorLimit, zeroKey, zeroProcessor, noProcessor, processorAt, withKey, withPending, withConsumed, withProcessor, withPlatform}
 use Rattle.model.specs.Cpu.{cpuSize, xmmAt, xmm}
 use Rattle.model.specs.Forms.{registerOf, keySource, notReady}
-use Rattle.model.specs.Calls.{StepCall, Call, step, read, write, settle, sleep, reset, taken}
+use Rattle.model.specs.Calls.{StepCall, Call, step, counter, read, write, settle, sleep, reset, taken}
 use Rattle.model.specs.Validity.{valid}
 use Rattle.model.specs.Refusals.{randomLength, operands, refusal}
 use Rattle.model.specs.Instructions.{Executed, plainKey, mixedWith, loadedKey, load, execute, stepped, executed}
@@ -204,6 +204,7 @@ perform-shaped m (step s) v t h =
     let e = processorAt m (s .processor) in
     stored-shaped m (s .processor) (withKey (executed s (e .key) .key) e) (m .platform)
     (executed-shaped s (cpu-length (viewOf m) s t) (random-length (viewOf m) s t) (e .key) (processor-shaped m (step s) (s .processor) refl v t h)) (h .platform) h
+perform-shaped m (counter c) v t h = h
 perform-shaped m (read r) v t h = h
 perform-shaped m (write w) v t h =
     let e = processorAt m (w .processor) in

@@ -13,7 +13,7 @@ use borrow.Author.Tests.{eq-eqb, ne-eqb, eqb-true, not-true}
 use Rattle.bits.proofs.Choice.{cond-on, cond-off, and-left, and-right, T-true, true-T, on-cond}
 use Rattle.isa.specs.Decode.{decodeAt, modrmOf, instructionOf}
 use Rattle.model.specs.Numbers.{bit}
-use Rattle.model.specs.Calls.{PowerOn, WriteCall, SleepCall, Call, step, read, write, settle, sleep, reset, taken}
+use Rattle.model.specs.Calls.{PowerOn, WriteCall, SleepCall, Call, step, counter, read, write, settle, sleep, reset, taken}
 use Rattle.model.specs.Refusals.{tests, refusal}
 use Rattle.model.specs.History.{History, atFirst, nameAt, renamed, loads, copiesOut, sent, copiedOut, gets, settledNames, nameKept, moved, next, historyFrom, history}
 use Rattle.model.specs.Status.{isName, accepted, copies, statusMoved, statusFrom, copyStatus, noCopyOn, statusLeft, backedUp}
@@ -90,6 +90,7 @@ left-alone p past h q old c t = go (accepted p c) t
   where
     kept : (c : Call) → T (noCopyOn q c) → statusMoved past h q c old ≡ old
     kept (step s) t = refl
+    kept (counter c) t = refl
     kept (read r) t = refl
     kept (write w) t =
         let copy = bit 0 (w .value) && eqb (w .processor) q in
@@ -156,6 +157,7 @@ module _ (p : PowerOn) (past : List Call) (h : History) (t : Backups h) where
   unfolding moved
   moved-backups (step s) =
       on-cond Backups (loads s) (renamed (s .processor) (suc (length past)) h) h (λ e. renamed-backups (s .processor) (suc (length past))) (λ e. t)
+  moved-backups (counter c) = t
   moved-backups (read r) = t
   moved-backups (write w) =
       let out = copiedOut past (w .processor) h in

@@ -12,7 +12,7 @@ use borrow.Author.Tests.{eqb-true, eq-eqb, not-false}
 use Rattle.bits.proofs.Choice.{cond-on, cond-off, or-right, T-true, true-T, on-cond}
 use Rattle.model.specs.Numbers.{bit}
 use Rattle.model.specs.Records.{absent, processorAt, withKey, withCopyStatus, withStore, withPending, withValid, withError, withConsumed, withProcessor, withPlatform}
-use Rattle.model.specs.Calls.{PowerOn, ReadCall, Call, step, read, write, settle, sleep, reset, taken, Answer, Outcome}
+use Rattle.model.specs.Calls.{PowerOn, ReadCall, Call, step, counter, read, write, settle, sleep, reset, taken, Answer, Outcome}
 use Rattle.model.specs.Validity.{valid}
 use Rattle.model.specs.Refusals.{noRegisters, refusal}
 use Rattle.model.specs.Backup.{Copied, copyOut, copyIn, written, registerRead, settled, withTaken, woken}
@@ -151,6 +151,7 @@ module _ (n : Machine) (v : T (valid n)) (q : eqb (n .platform .pending) 1 ≡ t
       ⊎ ((perform (marked n) c .machine ≡ withPlatform (withConsumed 1 f) (perform n c .machine)) × (perform n c .machine .platform ≡ f))
   unfolding perform withTaken woken
   performed-marked (step s) = inr (refl, refl)
+  performed-marked (counter c) = inr (refl, refl)
   performed-marked (read r) = inr (refl, refl)
   performed-marked (write w) =
       let e = processorAt n (w .processor) in
@@ -224,6 +225,7 @@ module _ (n : Machine) (v : T (valid n)) (q : eqb (n .platform .pending) 1 ≡ t
   performed-answered : (c : Call) → refusal (viewOf n) c ≡ 0 → AnsweredAlike c (f .pending) (perform (marked n) c .answer) (perform n c .answer)
   unfolding perform
   performed-answered (step s) a = inl refl
+  performed-answered (counter c) a = inl refl
   performed-answered (read r) a = read-answered r a
   performed-answered (write w) a = inl refl
   performed-answered (settle s) a = inl refl
@@ -264,6 +266,7 @@ module _ (m n : Machine) where
 
 struck-alike : (m n : Machine) → Alike m n → (c : Call) → isTaken c ≡ true → Alike (call m c .machine) n
 struck-alike m n h (step s) e = absurd (true≢false (sym e))
+struck-alike m n h (counter c) e = absurd (true≢false (sym e))
 struck-alike m n h (read r) e = absurd (true≢false (sym e))
 struck-alike m n h (write w) e = absurd (true≢false (sym e))
 struck-alike m n h (settle s) e = absurd (true≢false (sym e))

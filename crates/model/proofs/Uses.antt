@@ -32,7 +32,7 @@ use Rattle.model.specs.Numbers.{bit}
 use Rattle.model.specs.Cpu.{xmmAt, registerAt, ripAt, rflagsAt, cpuSize, xmm, register, rip, rflags, cpl, zf, flags, withZf, mapXmm}
 use Rattle.model.specs.Forms.{Form, registerOf, handleRead}
 use Rattle.model.specs.Instructions.{typeOf, keyFrom, encodedHandle, encoded, forbids, illegal, openedFor, aes, ciphered, used, advanced}
-use Rattle.model.specs.Demand3.{Agree, directionAllows, member}
+use Rattle.model.specs.Demand3.{Encode, Agree, directionAllows, permits, member}
 use Rattle.model.specs.declared.IwKey.{IwKey}
 use Rattle.model.proofs.Parts.{part-before, part-filled, part-length}
 use Rattle.model.proofs.Cpu.{zf-written, zf-rip, xmm-zf, xmm-rip, registers, mapped-length, xmm-mapped}
@@ -75,21 +75,17 @@ above-zero : (n : ℕ) → ltb 0 n ≡ not (eqb n 0)
 above-zero zero = refl
 above-zero (suc n) = lt-ltb 0 (suc n) (zero-lt-suc n) ∙ ap not (sym (eqb·suc-zero n))
 
--- size, privilege and direction
-abbrev pub permits : KeySize → ℕ → KeySize → Direction → ℕ → Bool
-permits size source used direction cpl = eqb (nk size) (nk used) && (not (bit 0 source) || eqb cpl 0) && directionAllows direction source
-
-sizes-told : (size : KeySize) (x : ℕ) (used : KeySize) (direction : Direction) (c : ℕ)
-    → permits size x used direction c ≡ true → eqb (nk size) (nk used) ≡ true
-sizes-told size x used direction c q = first (eqb (nk size) (nk used)) (not (bit 0 x) || eqb c 0) (directionAllows direction x) q
+sizes-told : (e : Encode) (c : ℕ) (used : KeySize) (direction : Direction) → permits e c used direction ≡ true → eqb (nk (e .size)) (nk used) ≡ true
+sizes-told e c used direction q =
+    first (eqb (nk (e .size)) (nk used)) (not (bit 0 (e .source)) || eqb c 0) (directionAllows direction (e .source)) q
   where
     first : (a b c : Bool) → (a && b && c) ≡ true → a ≡ true
     first true b c q = refl
     first false b c q = q
 
-illegal-told : (size used : KeySize) (direction : Direction) (x c : ℕ)
-    → illegal c used direction (aad (typeOf size) x) ≡ not (permits size x used direction c)
-illegal-told size used direction x c =
+illegal-told : (e : Encode) (c : ℕ) (used : KeySize) (direction : Direction)
+    → illegal c used direction (aad (typeOf (e .size)) (e .source)) ≡ not (permits e c used direction)
+illegal-told e c used direction =
     ap₂ (λ (r : Bool) (t : ℕ). r || not (eqb t (typeOf used)) || bit 0 (restrictions a) && ltb 0 c || forbids direction (restrictions a))
     (aad-reserved (typeOf size) x) (aad-key-type (typeOf size) x)
     ∙ ap (λ (r : ℕ). not (eqb (typeOf size % 16) (typeOf used)) || bit 0 r && ltb 0 c || forbids direction r) (aad-restrictions (typeOf size) x)
@@ -97,6 +93,12 @@ illegal-told size used direction x c =
     ∙ ap₂ (λ (z d : Bool). not (eqb (nk size) (nk used)) || bit 0 x && z || d) (above-zero c) (direction-bit direction x)
     ∙ morgan (eqb (nk size) (nk used)) (bit 0 x) (eqb c 0) (directionAllows direction x)
   where
+    size : KeySize
+    size = e .size
+
+    x : ℕ
+    x = e .source
+
     a : List ℕ
     a = aad (typeOf size) x
 
@@ -109,6 +111,10 @@ illegal-told size used direction x c =
 module _ (e : EncodeKey) (k : IwKey) (cpu : List ℕ) (l : length cpu ≡ cpuSize) where
   abbrev source : ℕ
   source = register (registerOf (e .source)) cpu
+
+  -- on some processor
+  abbrev pub made : Encode
+  made = record { processor = 0; size = e .size; source = source; key = keyFrom (e .size) cpu }
 
   key-length : length (keyFrom (e .size) cpu) ≡ 16 * keyBlocks (e .size)
   key-length =
@@ -159,17 +165,17 @@ module _ (e : EncodeKey) (k : IwKey) (cpu : List ℕ) (l : length cpu ≡ cpuSiz
         sym (take-length h) ∙ ap (λ (w : ℕ). take w h) q ∙ same ∙ ap (λ (w : ℕ). take w given) q ∙ take-length given
 
     pub opened : (direction : Direction) (c : ℕ)
-        → openedFor k c used direction h ≡ cond (permits (e .size) source used direction c) (some (keyFrom (e .size) cpu)) none
+        → openedFor k c used direction h ≡ cond (permits made c used direction) (some (keyFrom (e .size) cpu)) none
     unfolding openedFor
     opened direction c =
         ap (λ (b : Bool). cond b none (unwrapKey (k .integrity) (k .encryption) h))
-        (ap (illegal c used direction) aad-read ∙ illegal-told (e .size) used direction source c)
-        ∙ go (permits (e .size) source used direction c) refl
+        (ap (illegal c used direction) aad-read ∙ illegal-told made c used direction)
+        ∙ go (permits made c used direction) refl
       where
-        go : (t : Bool) → permits (e .size) source used direction c ≡ t
+        go : (t : Bool) → permits made c used direction ≡ t
             → _≡_ {A = Option (List ℕ)} (cond (not t) none (unwrapKey (k .integrity) (k .encryption) h)) (cond t (some (keyFrom (e .size) cpu)) none)
         go true q =
-            ap (unwrapKey (k .integrity) (k .encryption)) (whole (eqb-true (nk (e .size)) (nk used) (sizes-told (e .size) source used direction c q)))
+            ap (unwrapKey (k .integrity) (k .encryption)) (whole (eqb-true (nk (e .size)) (nk used) (sizes-told made c used direction q)))
             ∙ unwrap-wrap (k .integrity) (k .encryption) (aad (typeOf (e .size)) source) (keyFrom (e .size) cpu) (keyBlocks (e .size))
             (aad-length (typeOf (e .size)) source) key-length
         go false q = refl
@@ -213,7 +219,7 @@ module _ (e : EncodeKey) (k : IwKey) (before : List ℕ) (l : length before ≡ 
     (n : length (handleRead memory cpu bytes f) ≡ handleLength (f .size))
     (same : Agree (handleRead memory cpu bytes f) (encodedHandle e k before)) where
   abbrev allowed : Bool
-  allowed = permits (e .size) (register (registerOf (e .source)) before) (f .size) (f .direction) (cpl cpu)
+  allowed = permits (made e k before l) (cpl cpu) (f .size) (f .direction)
 
   ciphered-as : advanced bytes (used memory bytes f k cpu) ≡ advanced bytes (ciphered (f .direction) (f .size) (f .blocks) (cond allowed (some (keyFrom (e .size) before)) none) cpu)
   unfolding used
@@ -236,5 +242,5 @@ module _ (e : EncodeKey) (k : IwKey) (before : List ℕ) (l : length before ≡ 
       go true q =
           ap (λ (b : List ℕ). cond (member i (f .blocks)) b (xmm i cpu))
           (aes-same (f .direction) (e .size) (f .size) (keyFrom (e .size) before) (xmm i cpu)
-          (sizes-told (e .size) (register (registerOf (e .source)) before) (f .size) (f .direction) (cpl cpu) q))
+          (sizes-told (made e k before l) (cpl cpu) (f .size) (f .direction) q))
       go false q = refl

@@ -20,7 +20,7 @@ use Rattle.model.specs.Forms.{noBackup, keySource, notReady}
 use Rattle.model.specs.Instructions.{plainKey, mixedWith, loadedKey, executed}
 use Rattle.model.specs.History.{loadIn, makes, keyMade}
 use Rattle.model.specs.Records.{processorLimit, withProcessor, withProcessors, withPlatform, noBackupSupported, randomSource, zeroProcessor, noProcessor, processorAt, absent, holding, withKey, withCopyStatus, withBackup, withStore, withPending, withValid, withError, withConsumed}
-use Rattle.model.specs.Calls.{PowerOn, StepCall, Call, step, read, write, settle, sleep, reset, taken, Outcome}
+use Rattle.model.specs.Calls.{PowerOn, StepCall, Call, step, counter, read, write, settle, sleep, reset, taken, Outcome}
 use Rattle.model.specs.Validity.{flag, validCount, validFeatures, validKey, isZeroKey, validProcessor, validProcessors, validSlot, validPlatform, valid}
 use Rattle.model.specs.Refusals.{View, loadFault, refusal}
 use Rattle.model.specs.Backup.{Copied, copyOut, copyIn, written, settled, withTaken, storeKept, woken}
@@ -303,7 +303,7 @@ power-on-valid p e = go (validCount (p .count) && validFeatures (p .features)) r
   where
     power : Bool → Outcome
     power t =
-        cond (eqb (cond (not t) 1 0) 0) (done (fresh (p .count) (p .features)) [] 0)
+        cond (eqb (cond (not t) 1 0) 0) (done (fresh (p .count) (p .features)) [] [] 0)
         (record { machine = fresh 0 0; answer = record { number = cond (not t) 1 0; cpu = []; buffer = []; value = 0 } })
 
     go : (t : Bool) → (validCount (p .count) && validFeatures (p .features)) ≡ t → power t .answer .number ≡ 0
@@ -334,6 +334,7 @@ perform-valid m (step s) a t =
           (and-right (validKey (e .key)) (flag (e .«copy_status»)) v));
       platform = p .platform;
     })
+perform-valid m (counter c) a t = t
 perform-valid m (read r) a t = t
 perform-valid m (write w) a t =
     let p = machine-parts m t in
@@ -384,6 +385,7 @@ call-view m c = by-number m c (λ o. viewOf (o .machine) ≡ viewOf m) (λ e. ke
   where
     kept : (c : Call) → viewOf (perform m c .machine) ≡ viewOf m
     kept (step s) = refl
+    kept (counter c) = refl
     kept (read r) = refl
     kept (write w) = refl
     kept (settle s) = refl

@@ -18,6 +18,15 @@ pub record StepCall : Type 0 where
   pub random : List ℕ
   pub string : List ℕ
 
+-- change request (vii): "One call is to take a processor, CPU record, handle with its size (48 or 64), a 16-byte counter block and a lent buffer." The size is
+-- that of the handle lent; all are bytes, of any length
+pub record CounterCall : Type 0 where
+  pub processor : ℕ
+  pub cpu : List ℕ
+  pub handle : List ℕ
+  pub counter : List ℕ
+  pub buffer : List ℕ
+
 -- the scope, "Backup, sleep, reset": "A register call takes a processor number, a CPL, an address and, to write, 64 bits"
 pub record ReadCall : Type 0 where
   pub processor : ℕ
@@ -40,6 +49,7 @@ pub record SleepCall : Type 0 where
 
 pub data Call : Type 0 where
   step : StepCall → Call
+  counter : CounterCall → Call
   read : ReadCall → Call
   write : WriteCall → Call
   settle : SettleCall → Call
@@ -50,22 +60,31 @@ pub data Call : Type 0 where
 
 -- ---- what a call has, or lacks
 
+-- f of a step, g of a counter call, and d of every other call
+abbrev pub onCpu : {A : Type 0} → (StepCall → A) → (CounterCall → A) → A → Call → A
+onCpu f g d (step s) = f s
+onCpu f g d (counter c) = g c
+onCpu f g d (read r) = d
+onCpu f g d (write w) = d
+onCpu f g d (settle s) = d
+onCpu f g d (sleep s) = d
+onCpu f g d reset = d
+onCpu f g d taken = d
+
 -- f of a step, and d of every other call
 abbrev pub onStep : {A : Type 0} → (StepCall → A) → A → Call → A
-onStep f d (step s) = f s
-onStep f d (read r) = d
-onStep f d (write w) = d
-onStep f d (settle s) = d
-onStep f d (sleep s) = d
-onStep f d reset = d
-onStep f d taken = d
+onStep f d = onCpu f (λ c. d) d
 
 abbrev pub stepOf : Call → Option StepCall
 stepOf = onStep some none
 
 -- the CPU record as lent, empty where the call has none
 abbrev pub lentCpu : Call → List ℕ
-lentCpu = onStep (λ s. s .cpu) []
+lentCpu = onCpu (λ s. s .cpu) (λ c. c .cpu) []
+
+-- the buffer as lent, empty where the call has none
+abbrev pub lentBuffer : Call → List ℕ
+lentBuffer = onCpu (λ s. []) (λ c. c .buffer) []
 
 -- ---- what a call gives
 

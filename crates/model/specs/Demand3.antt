@@ -7,6 +7,7 @@ use mathlib.Core.Option.{Option, none, some, Option·map}
 use Prim.Native.Nat.{ℕ, zero, suc, _*_, _<_}
 use lib.Dec.{eqb, ltb}
 use lib.ListN.{length, getD, take}
+use Rattle.fips197.specs.Aes.{encrypt}
 use Rattle.fips197.specs.Sizes.{nk}
 use Rattle.fips197.specs.declared.Direction.{Direction}
 use Rattle.fips197.specs.declared.Direction.the-variants.{Encrypt, Decrypt}
@@ -17,11 +18,13 @@ use Rattle.isa.specs.declared.Decoded.{Decoded}
 use Rattle.isa.specs.declared.Decoded.the-variants as decoded
 use Rattle.isa.specs.declared.EncodeKey.{EncodeKey}
 use Rattle.isa.specs.declared.Instruction.the-variants as instruction
+use Rattle.sp800_38a.specs.Counter.{ctr}
 use Rattle.model.specs.Numbers.{bit}
-use Rattle.model.specs.Cpu.{xmm, register, cpl, zf}
+use Rattle.model.specs.Cpu.{xmm, register, cpl, zf, withZf}
 use Rattle.model.specs.Forms.{Form, formOf, registerOf, handleRead}
-use Rattle.model.specs.Calls.{PowerOn, StepCall, Call, onStep, Answer}
+use Rattle.model.specs.Calls.{PowerOn, StepCall, CounterCall, Call, counter, onStep, Answer}
 use Rattle.model.specs.Instructions.{aes}
+use Rattle.model.specs.Counter.{sizeOf}
 use Rattle.model.specs.Execution.{Run}
 use Rattle.model.specs.History.{History, keyOf, nameAt, callAt, loads, history, refusals}
 use Rattle.model.specs.declared.IwKey.{IwKey}
@@ -144,10 +147,13 @@ abbrev pub directionAllows : Direction → ℕ → Bool
 directionAllows Encrypt source = not (bit 1 source)
 directionAllows Decrypt source = not (bit 2 source)
 
+-- what an encode lets be done at a CPL, with a handle read as one of a size, in a direction
+abbrev pub permits : Encode → ℕ → KeySize → Direction → Bool
+permits e cpl size direction =
+    eqb (nk (e .size)) (nk size) && (not (bit 0 (e .source)) || eqb cpl 0) && directionAllows direction (e .source)
+
 abbrev pub allows : Encode → UseMade → Bool
-allows e u =
-    eqb (nk (e .size)) (nk (u .form .size)) && (not (bit 0 (e .source)) || eqb (cpl (u .cpu)) 0)
-    && directionAllows (u .form .direction) (e .source)
+allows e u = permits e (cpl (u .cpu)) (u .form .size) (u .form .direction)
 
 abbrev pub member : ℕ → List ℕ → Bool
 member i [] = false
@@ -182,6 +188,25 @@ pub record Demand3 (p : PowerOn) (calls : List Call) (r : Run) : Type 0 where
       → nameAt (encode .processor) (history p xs) ≡ nameAt (made .processor) (history p (xs ++ e ∷ ys))
       → Agree (made .bytesRead) (take (handleLength (encode .size)) (answerAt r (length xs) .cpu))
       → Works encode made (answerAt r (length (xs ++ e ∷ ys)) .cpu)
+
+-- ---- counter calls
+
+-- change request (vii): the CPU record and the buffer after a counter call, which goes as an encrypting use does. Where key size, privilege and direction allow
+-- it, ZF is 0 and the buffer is XORed with the counters, encrypted under the encoded key. Otherwise ZF is 1 and the buffer is unchanged.
+abbrev pub Counts : Encode → CounterCall → Answer → Type 0
+Counts e c a =
+    let ok = permits e (cpl (c .cpu)) (sizeOf (c .handle)) Encrypt in
+    (a .cpu ≡ withZf (cond ok 0 1) (c .cpu))
+    × (a .buffer ≡ cond ok (ctr (encrypt (nk (e .size)) (e .key)) (c .counter) (c .buffer)) (c .buffer))
+
+-- beside the demand, of the same p, calls and r: what `uses` says of uses
+pub record CounterCalls (p : PowerOn) (calls : List Call) (r : Run) : Type 0 where
+  pub counts : (xs : List Call) (e : Call) (ys : List Call) (c : CounterCall) (zs : List Call) → calls ≡ xs ++ e ∷ (ys ++ counter c ∷ zs)
+      → (encode : Encode) → encodeOf e ≡ some encode → answerAt r (length xs) .number ≡ 0
+      → answerAt r (length (xs ++ e ∷ ys)) .number ≡ 0
+      → nameAt (encode .processor) (history p xs) ≡ nameAt (c .processor) (history p (xs ++ e ∷ ys))
+      → Agree (c .handle) (take (handleLength (encode .size)) (answerAt r (length xs) .cpu))
+      → Counts encode c (answerAt r (length (xs ++ e ∷ ys)))
 
 -- ---- corollaries
 

@@ -6,10 +6,11 @@ use Prim.Native.Nat.{ℕ}
 use lib.Dec.{eqb}
 use lib.ListN.{replicate}
 use Rattle.model.specs.Records.{processorLimit, zeroProcessor, absent, processorAt, withKey, withProcessors, withProcessor, withPlatform}
-use Rattle.model.specs.Calls.{PowerOn, StepCall, ReadCall, WriteCall, Call, step, read, write, settle, sleep, reset, taken, lentCpu, Answer, Outcome}
+use Rattle.model.specs.Calls.{PowerOn, StepCall, CounterCall, ReadCall, WriteCall, Call, step, counter, read, write, settle, sleep, reset, taken, lentCpu, lentBuffer, Answer, Outcome}
 use Rattle.model.specs.Validity.{validCount, validFeatures, valid}
 use Rattle.model.specs.Refusals.{View, test, first, refusal}
 use Rattle.model.specs.Instructions.{executed}
+use Rattle.model.specs.Counter.{counted}
 use Rattle.model.specs.Backup.{written, registerRead, settled, withTaken, woken}
 use Rattle.model.specs.declared.Platform.{Platform}
 use Rattle.model.specs.declared.Machine.{Machine}
@@ -28,21 +29,21 @@ fresh count features =
 abbrev pub powerOnRefusal : PowerOn → ℕ
 powerOnRefusal p = first (test 1 (not (validCount (p .count) && validFeatures (p .features))) ∷ [])
 
-abbrev pub done : Machine → List ℕ → ℕ → Outcome
-done m cpu value = record { machine = m; answer = record { number = 0; cpu = cpu; buffer = []; value = value } }
+abbrev pub done : Machine → List ℕ → List ℕ → ℕ → Outcome
+done m cpu buffer value = record { machine = m; answer = record { number = 0; cpu = cpu; buffer = buffer; value = value } }
 
 -- "Refused, it returns an all-zero machine"
 abbrev pub powerOn : PowerOn → Outcome
 powerOn p =
     cond (eqb (powerOnRefusal p) 0)
-    (done (fresh (p .count) (p .features)) [] 0)
+    (done (fresh (p .count) (p .features)) [] [] 0)
     (record { machine = fresh 0 0; answer = record { number = powerOnRefusal p; cpu = []; buffer = []; value = 0 } })
 
 -- ---- calls
 
 -- "Each leaves machine, CPU record and memory unchanged, and gives only its number"
 abbrev pub refused : ℕ → Machine → Call → Outcome
-refused n m c = record { machine = m; answer = record { number = n; cpu = lentCpu c; buffer = []; value = 0 } }
+refused n m c = record { machine = m; answer = record { number = n; cpu = lentCpu c; buffer = lentBuffer c; value = 0 } }
 
 abbrev pub viewOf : Machine → View
 viewOf m = record { count = m .count; features = m .features }
@@ -51,25 +52,30 @@ viewOf m = record { count = m .count; features = m .features }
 abbrev pub performStep : Machine → StepCall → Outcome
 performStep m s =
     let e = processorAt m (s .processor) in
-    done (withProcessor (s .processor) (withKey (executed s (e .key) .key) e) m) (executed s (e .key) .cpu) 0
+    done (withProcessor (s .processor) (withKey (executed s (e .key) .key) e) m) (executed s (e .key) .cpu) [] 0
+
+-- a counter call changes nothing of it
+abbrev pub performCounter : Machine → CounterCall → Outcome
+performCounter m c = let x = counted c (processorAt m (c .processor) .key) in done m (x .cpu) (x .buffer) 0
 
 abbrev pub performRead : Machine → ReadCall → Outcome
-performRead m r = done m [] (registerRead (r .address) (processorAt m (r .processor)) (m .platform))
+performRead m r = done m [] [] (registerRead (r .address) (processorAt m (r .processor)) (m .platform))
 
 abbrev pub performWrite : Machine → WriteCall → Outcome
 performWrite m w =
     let x = written (w .address) (w .value) (processorAt m (w .processor)) (m .platform) in
-    done (withPlatform (x .platform) (withProcessor (w .processor) (x .processor) m)) [] 0
+    done (withPlatform (x .platform) (withProcessor (w .processor) (x .processor) m)) [] [] 0
 
 -- "Sleep and wake ..: IWKeys zero, copy statuses 0"; "Reset: as power-on, same count and features."
 unfoldable pub perform : Machine → Call → Outcome
 perform m (step s) = performStep m s
+perform m (counter c) = performCounter m c
 perform m (read r) = performRead m r
 perform m (write w) = performWrite m w
-perform m (settle s) = done (withPlatform (settled (s .code) (m .platform)) m) [] 0
-perform m (sleep s) = done (withProcessors (replicate processorLimit zeroProcessor) (withPlatform (woken (s .code) (m .platform)) m)) [] 0
-perform m reset = done (fresh (m .count) (m .features)) [] 0
-perform m taken = done (withPlatform (withTaken (m .platform)) m) [] 0
+perform m (settle s) = done (withPlatform (settled (s .code) (m .platform)) m) [] [] 0
+perform m (sleep s) = done (withProcessors (replicate processorLimit zeroProcessor) (withPlatform (woken (s .code) (m .platform)) m)) [] [] 0
+perform m reset = done (fresh (m .count) (m .features)) [] [] 0
+perform m taken = done (withPlatform (withTaken (m .platform)) m) [] [] 0
 
 -- the scope, "Turned back": 1 comes first
 abbrev pub numberOf : Machine → Call → ℕ

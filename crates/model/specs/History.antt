@@ -15,7 +15,7 @@ use Rattle.isa.specs.declared.LoadIwKey.{LoadIwKey}
 use Rattle.model.specs.Numbers.{bit}
 use Rattle.model.specs.Records.{zeroKey}
 use Rattle.model.specs.Forms.{noBackup, notReady}
-use Rattle.model.specs.Calls.{PowerOn, StepCall, WriteCall, Call, step, read, write, settle, sleep, reset, taken, onStep}
+use Rattle.model.specs.Calls.{PowerOn, StepCall, WriteCall, Call, step, counter, read, write, settle, sleep, reset, taken, onStep}
 use Rattle.model.specs.Refusals.{View, refusal}
 use Rattle.model.specs.Instructions.{loadedKey}
 use Rattle.model.specs.declared.IwKey.{IwKey}
@@ -123,6 +123,7 @@ wokenNames p code h = record { names = replicate (p .count) 0; backup = nameKept
 -- "Reset: all as at first."; "Any other call ..: nothing moves."; change request (v), of taken: "moves no name on it". The call has the number after those past.
 unfoldable pub moved : PowerOn → List Call → Call → History → History
 moved p past (step s) h = steppedNames (suc (length past)) s h
+moved p past (counter c) h = h
 moved p past (read r) h = h
 moved p past (write w) h = writtenNames past w h
 moved p past (settle s) h = settledNames (s .code) h

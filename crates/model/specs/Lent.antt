@@ -5,7 +5,7 @@ use mathlib.Core.List.{List, [], _∷_}
 use Prim.Native.Nat.{ℕ}
 use lib.Dec.{eqb}
 use lib.ListN.{length}
-use Rattle.model.specs.Calls.{PowerOn, Call, lentCpu, Answer, Outcome}
+use Rattle.model.specs.Calls.{PowerOn, Call, lentCpu, lentBuffer, Answer, Outcome}
 use Rattle.model.specs.Execution.{powerOn, call, Run}
 use Rattle.model.specs.Layout.{machineSize, machineBytes, machineAt}
 
@@ -18,17 +18,17 @@ pub record Lent : Type 0 where
 abbrev pub into : List ℕ → Outcome → Lent
 into block o = record { block = cond (eqb (o .answer .number) 0) (machineBytes (o .machine)) block; answer = o .answer }
 
--- "Machine not 924 bytes (C form)" gives 1, with the CPU record as lent
-abbrev pub wrongSize : List ℕ → List ℕ → Lent
-wrongSize block cpu = record { block = block; answer = record { number = 1; cpu = cpu; buffer = []; value = 0 } }
+-- "Machine not 924 bytes (C form)" gives 1, with CPU record and buffer as lent
+abbrev pub wrongSize : List ℕ → List ℕ → List ℕ → Lent
+wrongSize block cpu buffer = record { block = block; answer = record { number = 1; cpu = cpu; buffer = buffer; value = 0 } }
 
 -- "Of lent bytes power-on reads only the length. Refused, .. lent bytes stay."
 unfoldable pub powerOnLent : List ℕ → PowerOn → Lent
-powerOnLent block p = cond (eqb (length block) machineSize) (into block (powerOn p)) (wrongSize block [])
+powerOnLent block p = cond (eqb (length block) machineSize) (into block (powerOn p)) (wrongSize block [] [])
 
 -- the call on the machine in the block
 unfoldable pub callLent : List ℕ → Call → Lent
-callLent block c = cond (eqb (length block) machineSize) (into block (call (machineAt block) c)) (wrongSize block (lentCpu c))
+callLent block c = cond (eqb (length block) machineSize) (into block (call (machineAt block) c)) (wrongSize block (lentCpu c) (lentBuffer c))
 
 -- a list of calls on one block, and the machine that is in it then
 abbrev pub runLent : List ℕ → List Call → Run

@@ -6,6 +6,7 @@ pub mod Validity
 pub mod Forms
 pub mod Refusals
 pub mod Instructions
+pub mod Counter
 pub mod Backup
 pub mod Execution
 pub mod History

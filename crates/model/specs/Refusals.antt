@@ -1,4 +1,5 @@
--- The scope, "Turned back, in checking order": refusals 2 to 14 as one list of numbered tests. A test is false for a call that lacks its operand.
+-- The scope, "Turned back, in checking order": refusals 2 to 14 as one list of numbered tests, with those of change requests at their places. A test is false
+-- for a call that lacks its operand.
 -- Assumes nothing.
 use mathlib.Core.Bool.{Bool, true, false, cond, not, _&&_, _||_}
 use mathlib.Core.List.{List, [], _∷_}
@@ -9,6 +10,7 @@ use lib.ListN.{length}
 use Rattle.isa.specs.Decode.{decode}
 use Rattle.isa.specs.Ranges.{handleLength, someNotCanonical, someOutside}
 use Rattle.fips197.specs.declared.KeySize.{KeySize}
+use Rattle.fips197.specs.declared.KeySize.the-variants.{Aes128, Aes256}
 use Rattle.isa.specs.declared.Address.{Address}
 use Rattle.isa.specs.declared.Decoded.{Decoded}
 use Rattle.isa.specs.declared.Decoded.the-variants as decoded
@@ -19,7 +21,7 @@ use Rattle.isa.specs.declared.Segment.the-variants.{Data, Stack}
 use Rattle.model.specs.Records.{keyLocker, firmwareEnabled, wideForms, backupRegisters, noBackupSupported, randomSource}
 use Rattle.model.specs.Cpu.{cpuSize, register, eax, cpl, control, cr4Kl, cr4Osfxsr, cr0Em, cr0Ts, zeroFieldSet}
 use Rattle.model.specs.Forms.{formOf, registerOf, handleAddress, keySource, noBackup}
-use Rattle.model.specs.Calls.{StepCall, ReadCall, WriteCall, Call, step, read, write, settle, sleep, reset, taken}
+use Rattle.model.specs.Calls.{StepCall, CounterCall, ReadCall, WriteCall, Call, step, counter, read, write, settle, sleep, reset, taken}
 
 -- all that a refusal other than 1 depends on, besides the call
 pub record View : Type 0 where
@@ -58,7 +60,9 @@ pub record Operands : Type 0 where
   pub unknownCode : Bool
   pub processor : Option ℕ
   pub cpl : Option ℕ
+  pub cpu : Option (List ℕ)
   pub step : Option Asked
+  pub counter : Option CounterCall
   pub registerFault : ℕ → Bool
 
 -- a test of what a call may lack
@@ -75,6 +79,18 @@ ofDecoded f decoded.Empty = false
 
 abbrev pub ofInstruction : (Asked → Instruction → Bool → ℕ → Bool) → Operands → Bool
 ofInstruction f o = of (λ a. ofDecoded (f a) (a .decoded)) (o .step)
+
+-- ---- 18
+
+-- "18 a buffer above 65,536 bytes, another handle size or a counter block not of 16 bytes, checked directly after 5"
+abbrev pub bufferLimit : ℕ
+bufferLimit = 65536
+
+abbrev pub badSize : CounterCall → Bool
+badSize c =
+    ltb bufferLimit (length (c .buffer))
+    || not (eqb (length (c .handle)) (handleLength Aes128) || eqb (length (c .handle)) (handleLength Aes256))
+    || not (eqb (length (c .counter)) 16)
 
 -- ---- 6 to 9
 
@@ -175,19 +191,22 @@ writeFault w features = noRegisters features (w .cpl) || not (eqb (w .address) 0
 
 -- ---- the list
 
+-- change request (vii), of a counter call: "10 and 11 follow as for the single form", which has no LOCK, needs firmware, and does not need the wide bit
 unfoldable pub tests : View → Operands → List Test
 tests v o =
     test 2 (o .unknownCode)
     ∷ test 3 (of (leb (v .count)) (o .processor))
-    ∷ test 4 (of (λ a. not (eqb (length (a .cpu)) cpuSize)) (o .step))
-    ∷ test 5 (of (ltb 3) (o .cpl) || of (λ a. zeroFieldSet (a .cpu)) (o .step))
+    ∷ test 4 (of (λ cpu. not (eqb (length cpu) cpuSize)) (o .cpu))
+    ∷ test 5 (of (ltb 3) (o .cpl) || of zeroFieldSet (o .cpu))
+    ∷ test 18 (of badSize (o .counter))
     ∷ test 6 (of (λ a. ltb memoryLimit (a .memory)) (o .step))
     ∷ test 7 (of (λ a. not (randomLength (a .random))) (o .step))
     ∷ test 8 (of (λ a. badByte (a .decoded)) (o .step))
     ∷ test 9 (of (λ a. ended (a .decoded)) (o .step))
     ∷ test 10
-    (ofInstruction (λ a i lock bytes. invalidOpcode (v .features) (control (a .cpu)) lock (needsFirmware i) (needsWide i)) o)
-    ∷ test 11 (ofInstruction (λ a i lock bytes. noMath (control (a .cpu))) o)
+    (of (λ c. invalidOpcode (v .features) (control (c .cpu)) false true false) (o .counter)
+    || ofInstruction (λ a i lock bytes. invalidOpcode (v .features) (control (a .cpu)) lock (needsFirmware i) (needsWide i)) o)
+    ∷ test 11 (of (λ c. noMath (control (c .cpu))) (o .counter) || ofInstruction (λ a i lock bytes. noMath (control (a .cpu))) o)
     ∷ test 12 (ofInstruction (λ a i lock bytes. instructionFault (v .features) (a .cpu) i bytes) o || o .registerFault (v .features))
     ∷ test 13 (ofInstruction (λ a i lock bytes. ofHandle (canonicalFault true) (a .cpu) bytes i) o)
     ∷ test 14 (ofInstruction (λ a i lock bytes. ofHandle (outside (a .memory)) (a .cpu) bytes i) o)
@@ -206,22 +225,39 @@ asked s =
       decoded = decode (s .string);
     }
 
--- the CPL of a step stands in its CPU record
+-- the CPL of a step or counter call stands in its CPU record
+abbrev pub ofCpu : ℕ → List ℕ → Option Asked → Option CounterCall → Operands
+ofCpu p cpu s c =
+    record {
+      unknownCode = false;
+      processor = some p;
+      cpl = some (cpl cpu);
+      cpu = some cpu;
+      step = s;
+      counter = c;
+      registerFault = λ features. false;
+    }
+
 abbrev pub ofStep : Asked → Operands
-ofStep a =
-    record { unknownCode = false; processor = some (a .processor); cpl = some (cpl (a .cpu)); step = some a; registerFault = λ features. false }
+ofStep a = ofCpu (a .processor) (a .cpu) (some a) none
+
+abbrev pub ofCounter : CounterCall → Operands
+ofCounter c = ofCpu (c .processor) (c .cpu) none (some c)
 
 -- "A register call takes a processor number, a CPL, an address and, to write, 64 bits"
 abbrev pub ofRegister : ℕ → ℕ → (ℕ → Bool) → Operands
-ofRegister processor cpl fault = record { unknownCode = false; processor = some processor; cpl = some cpl; step = none; registerFault = fault }
+ofRegister processor cpl fault =
+    record { unknownCode = false; processor = some processor; cpl = some cpl; cpu = none; step = none; counter = none; registerFault = fault }
 
 -- a call that has a code at the most
 abbrev pub ofCode : Bool → Operands
-ofCode unknown = record { unknownCode = unknown; processor = none; cpl = none; step = none; registerFault = λ features. false }
+ofCode unknown =
+    record { unknownCode = unknown; processor = none; cpl = none; cpu = none; step = none; counter = none; registerFault = λ features. false }
 
 -- settle knows the codes 0 and 1, wake 0 to 2 (2, "Settle or wake code unknown")
 abbrev pub operands : Call → Operands
 operands (step s) = ofStep (asked s)
+operands (counter c) = ofCounter c
 operands (read r) = ofRegister (r .processor) (r .cpl) (readFault r)
 operands (write w) = ofRegister (w .processor) (w .cpl) (writeFault w)
 operands (settle s) = ofCode (leb 2 (s .code))

@@ -9,7 +9,7 @@ use Prim.Native.Nat.{ℕ}
 use lib.Dec.{eqb}
 use lib.ListN.{length}
 use Rattle.model.specs.Numbers.{bit}
-use Rattle.model.specs.Calls.{PowerOn, ReadCall, WriteCall, Call, step, read, write, settle, sleep, reset, taken}
+use Rattle.model.specs.Calls.{PowerOn, ReadCall, WriteCall, Call, step, counter, read, write, settle, sleep, reset, taken}
 use Rattle.model.specs.Refusals.{refusal}
 use Rattle.model.specs.Execution.{Run}
 use Rattle.model.specs.History.{History, atFirst, viewGiven, loads, copiesOut, next, history}
@@ -40,6 +40,7 @@ copies past w h = cond (eqb (w .address) 0xD91) (copiesOut past (w .processor) h
 -- reset set it to 0; no other call touches it
 abbrev pub statusMoved : List Call → History → ℕ → Call → ℕ → ℕ
 statusMoved past h q (step s) old = old
+statusMoved past h q (counter c) old = old
 statusMoved past h q (read r) old = old
 statusMoved past h q (write w) old = cond (bit 0 (w .value) && eqb (w .processor) q) (cond (copies past w h) 1 0) old
 statusMoved past h q (settle s) old = old
@@ -57,6 +58,7 @@ copyStatus p calls q = statusFrom p [] (atFirst p) q 0 calls
 -- a call that leaves the copy status of q: neither a copy on q nor a sleep or reset
 abbrev pub noCopyOn : ℕ → Call → Bool
 noCopyOn q (step s) = true
+noCopyOn q (counter c) = true
 noCopyOn q (read r) = true
 noCopyOn q (write w) = not (bit 0 (w .value) && eqb (w .processor) q)
 noCopyOn q (settle s) = true
@@ -81,6 +83,7 @@ backedUp h = eqb (h .pending) 0 && isName (h .store)
 -- clear it; no other call touches it
 abbrev pub consumedMoved : List Call → History → Call → ℕ → ℕ
 consumedMoved past h (step s) old = old
+consumedMoved past h (counter c) old = old
 consumedMoved past h (read r) old = old
 consumedMoved past h (write w) old = cond (bit 0 (w .value) && (eqb (w .address) 0xD91 && copiesOut past (w .processor) h)) 0 old
 consumedMoved past h (settle s) old = cond (eqb (h .pending) 1) 1 old
@@ -114,6 +117,7 @@ pub record StatusRegisters (p : PowerOn) (calls : List Call) (r : Run) : Type 0 
 -- a call that leaves the IWKey of q and the backup: no load and no copy in on q, no copy out that succeeds on any processor, no sleep, no reset
 abbrev pub leaves : List Call → History → ℕ → Call → Bool
 leaves past h q (step s) = not (loads s && eqb (s .processor) q)
+leaves past h q (counter c) = true
 leaves past h q (read r) = true
 leaves past h q (write w) =
     not (bit 0 (w .value)) || cond (eqb (w .address) 0xD91) (not (copiesOut past (w .processor) h)) (not (eqb (w .processor) q))

@@ -9,7 +9,7 @@ use lib.Dec.{eqb}
 use lib.ListN.{length}
 use Rattle.model.specs.Records.{withConsumed, withPlatform}
 use Rattle.model.specs.Validity.{valid}
-use Rattle.model.specs.Calls.{PowerOn, Call, step, read, write, settle, sleep, reset, taken, Answer}
+use Rattle.model.specs.Calls.{PowerOn, Call, step, counter, read, write, settle, sleep, reset, taken, Answer}
 use Rattle.model.specs.Execution.{Run}
 use Rattle.model.specs.History.{history}
 use Rattle.model.specs.Demand3.{answerAt}
@@ -18,6 +18,7 @@ use Rattle.model.specs.declared.Machine.{Machine}
 
 abbrev pub isTaken : Call → Bool
 isTaken (step s) = false
+isTaken (counter c) = false
 isTaken (read r) = false
 isTaken (write w) = false
 isTaken (settle s) = false
@@ -32,6 +33,7 @@ Alike m n = (m ≡ n) ⊎ ((valid n ≡ true) × (n .platform .pending ≡ 1) ×
 -- a read of IA32_IWKEYBACKUP_STATUS
 abbrev pub readsStatus : Call → Bool
 readsStatus (step s) = false
+readsStatus (counter c) = false
 readsStatus (read r) = eqb (r .address) 0x991
 readsStatus (write w) = false
 readsStatus (settle s) = false
