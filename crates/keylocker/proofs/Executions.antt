@@ -13,7 +13,7 @@ use Rattle.model.specs.Calls.{PowerOn, StepCall, ReadCall, WriteCall, Call, ste
 use Rattle.model.specs.Refusals.{first}
 use Rattle.model.specs.Execution.{powerOn, Run, run}
 use Rattle.model.specs.History.{nameAt, history}
-use Rattle.model.specs.Demand3.{held, Demand3}
+use Rattle.model.specs.Demand3.{held, Demand3, CounterCalls}
 use Rattle.model.specs.Status.{StatusRegisters, ruleCalls, OperatorRule}
 use Rattle.model.specs.Struck.{struck}
 use Rattle.model.specs.Taken.{isTaken, TakenUnseen}
@@ -22,7 +22,7 @@ use Rattle.model.specs.Layout.{machineSize, machineBytes, machineAt}
 use Rattle.model.specs.Lent.{Lent, into, wrongSize, powerOnLent, callLent, runLent}
 use Rattle.model.specs.Records.{zeroKey}
 use Rattle.model.specs.declared.IwKey.{IwKey}
-use Rattle.model.proofs.Lent.{power-on-lent, run-on, demand-3-lent, status-registers-lent}
+use Rattle.model.proofs.Lent.{power-on-lent, run-on, demand-3-lent, counter-calls-lent, status-registers-lent}
 use Rattle.model.proofs.Operator.{operator-rule}
 use Rattle.model.proofs.Taken.{taken-unseen}
 use Rattle.model.proofs.Idle.{idle-lent, idle-unseen}
@@ -92,6 +92,9 @@ module _ (p : PowerOn) (calls : List Call) (r : Run) (x : Execution p calls r) w
 
   pub demand-3-c : Demand3 p calls r
   demand-3-c = subst (Demand3 p calls) lent-run (demand-3-lent (x .lent) p powered calls)
+
+  pub counter-calls-c : CounterCalls p calls r
+  counter-calls-c = subst (CounterCalls p calls) lent-run (counter-calls-lent (x .lent) p powered calls)
 
   pub status-registers-c : StatusRegisters p calls r
   status-registers-c = subst (StatusRegisters p calls) lent-run (status-registers-lent (x .lent) p powered calls)

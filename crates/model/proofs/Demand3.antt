@@ -1,4 +1,4 @@
--- Demand 3 holds: along every list of calls from a power-on that was not refused.
+-- Demand 3 holds: along every list of calls from a power-on that was not refused. So does what is said of counter calls beside it.
 -- Assumes nothing.
 use mathlib.Core.Path.{_≡_, _∙_, refl, sym, ap, subst}
 use mathlib.Core.Bool.{Bool, true, not, _&&_}
@@ -20,22 +20,23 @@ use Rattle.isa.specs.declared.Instruction.the-variants as instruction
 use Rattle.isa.proofs.Fitting.{OnBlock, block-fits}
 use Rattle.isa.proofs.Ranges.{outside-ends, length-some}
 use Rattle.model.specs.Records.{processorAt}
-use Rattle.model.specs.Cpu.{xmm, zf}
+use Rattle.model.specs.Cpu.{cpuSize, xmm, zf}
 use Rattle.model.specs.Forms.{Form, single, wide, formOf, handleAddress, handleRead}
-use Rattle.model.specs.Calls.{PowerOn, StepCall, Call, step, Answer, Outcome}
-use Rattle.model.specs.Refusals.{View, refusal}
+use Rattle.model.specs.Calls.{PowerOn, StepCall, CounterCall, Call, step, counter, Answer, Outcome}
+use Rattle.model.specs.Refusals.{View, operands, refusal}
 use Rattle.model.specs.Instructions.{encodedHandle, used, execute, advanced, stepped, executed}
+use Rattle.model.specs.Counter.{counted}
 use Rattle.model.specs.Execution.{perform, call, run, powerOn}
 use Rattle.model.specs.History.{keyOf, nameAt, atFirst, viewGiven, history, refusals}
-use Rattle.model.specs.Demand3.{Encode, encodeMade, encodeIn, UseMade, useMade, useIn, encodeOf, useOf, Agree, Works, answerAt, given, allOf, everyName, Demand3}
+use Rattle.model.specs.Demand3.{Encode, encodeMade, encodeIn, UseMade, useMade, useIn, encodeOf, useOf, Agree, Works, answerAt, given, allOf, everyName, Demand3, Counts, CounterCalls}
 use Rattle.model.specs.declared.IwKey.{IwKey}
 use Rattle.model.specs.declared.Machine.{Machine}
 use Rattle.model.proofs.Parts.{part-length}
 use Rattle.model.proofs.Cpu.{registers}
 use Rattle.model.proofs.Addresses.{handle-below-64}
-use Rattle.model.proofs.Uses.{handle-given, use-zf, use-xmm}
+use Rattle.model.proofs.Uses.{handle-given, use-zf, use-xmm, counter-counts}
 use Rattle.model.proofs.Frames.{step-only, call-performed, call-number}
-use Rattle.model.proofs.Refusals.{processor-below, cpu-length, memory-length, handle-inside, never-1}
+use Rattle.model.proofs.Refusals.{processor-below, cpu-length, memory-length, handle-inside, handle-sized, never-1}
 use Rattle.model.proofs.Validities.{power-on-valid}
 use Rattle.model.proofs.Histories.{Holds, key-at, name-given, key-more, number-told, holds-first, holds-run, numbers-run}
 
@@ -126,6 +127,17 @@ pub answer-at : (m : Machine) (xs : List Call) (c : Call) (ys : List Call) → a
 answer-at m [] c ys = refl
 answer-at m (x ∷ xs) c ys = answer-at (call m x .machine) xs c ys
 
+-- a property of the answers to two calls of a list
+by-answers : (m : Machine) (calls xs : List Call) (e : Call) (ys : List Call) (u : Call) (zs : List Call) → calls ≡ xs ++ e ∷ (ys ++ u ∷ zs)
+    → (P : Answer → Answer → Type 0) → P (call (run m xs .machine) e .answer) (call (run m (xs ++ e ∷ ys) .machine) u .answer)
+    → P (answerAt (run m calls) (length xs)) (answerAt (run m calls) (length (xs ++ e ∷ ys)))
+by-answers m calls xs e ys u zs split P h =
+    let again : calls ≡ (xs ++ e ∷ ys) ++ u ∷ zs = split ∙ sym (append-assoc xs (e ∷ ys) (u ∷ zs)) in
+    let gave = ap (λ (l : List Call). answerAt (run m l) (length xs)) split ∙ answer-at m xs e (ys ++ u ∷ zs) in
+    let gets = ap (λ (l : List Call). answerAt (run m l) (length (xs ++ e ∷ ys))) again ∙ answer-at m (xs ++ e ∷ ys) u zs in
+    subst (λ (a : Answer). P a (answerAt (run m calls) (length (xs ++ e ∷ ys)))) (sym gave)
+    (subst (P (call (run m xs .machine) e .answer)) (sym gets) h)
+
 module _ (p : PowerOn) (m : Machine) (first : Holds p [] m (atFirst p)) where
   abbrev machineAfter : List Call → Machine
   machineAfter xs = run m xs .machine
@@ -140,59 +152,81 @@ module _ (p : PowerOn) (m : Machine) (first : Holds p [] m (atFirst p)) where
     pub was-performed : call (machineAfter xs) c ≡ perform (machineAfter xs) c
     was-performed = call-performed (machineAfter xs) c (sym (call-number (machineAfter xs) c) ∙ zero)
 
-  -- the CPU record after a step: under the key that the history names
+    -- its processor holds the key that the history names
+    named-key : (q : ℕ) → operands c .processor ≡ some q → processorAt (machineAfter xs) q .key ≡ keyOf xs (nameAt q (history p xs))
+    named-key q r =
+        key-at p xs (machineAfter xs) (history p xs) (holds xs) q (processor-below (viewGiven p) c q not-refused r)
+
+  -- the CPU record after a step: under that key
   module _ (xs : List Call) (s : StepCall) (done : call (machineAfter xs) (step s) .answer .number ≡ 0)
       (what : Instruction) (lock : Bool) (bytes : ℕ) (found : decode (s .string) ≡ decoded.Found what lock bytes) where
-    named-key : processorAt (machineAfter xs) (s .processor) .key ≡ keyOf xs (nameAt (s .processor) (history p xs))
-    named-key =
-        key-at p xs (machineAfter xs) (history p xs) (holds xs) (s .processor)
-        (processor-below (viewGiven p) (step s) (s .processor) (not-refused xs (step s) done) refl)
-
     cpu-after : call (machineAfter xs) (step s) .answer .cpu
         ≡ advanced bytes (execute (s .memory) (s .random) what bytes (keyOf xs (nameAt (s .processor) (history p xs))) (s .cpu) .cpu)
     unfolding perform
     cpu-after =
         ap (λ (o : Outcome). o .answer .cpu) (was-performed xs (step s) done)
         ∙ executed-cpu s (processorAt (machineAfter xs) (s .processor) .key) what lock bytes found
-        ∙ ap (λ (k : IwKey). advanced bytes (execute (s .memory) (s .random) what bytes k (s .cpu) .cpu)) named-key
+        ∙ ap (λ (k : IwKey). advanced bytes (execute (s .memory) (s .random) what bytes k (s .cpu) .cpu)) (named-key xs (step s) done (s .processor) refl)
 
-  -- the encode s and, after the calls ys, the use t
-  module _ (xs : List Call) (s : StepCall) (ys : List Call) (t : StepCall) where
+  -- the encode s and, after the calls ys, the same name
+  module _ (xs : List Call) (s : StepCall) (ys : List Call) where
     abbrev between : List Call
     between = xs ++ step s ∷ ys
 
     abbrev name : ℕ
     name = nameAt (s .processor) (history p xs)
 
-    same-key : name ≡ nameAt (t .processor) (history p between) → keyOf between (nameAt (t .processor) (history p between)) ≡ keyOf xs name
-    same-key q =
-        ap (keyOf between) (sym q) ∙ key-more p xs (step s ∷ ys) name (name-given p xs (machineAfter xs) (history p xs) (holds xs) (s .processor))
+    abbrev k : IwKey
+    k = keyOf xs name
 
-    steps-work : (i : EncodeKey) (lock : Bool) (bytes : ℕ) → decode (s .string) ≡ decoded.Found (instruction.EncodeKey i) lock bytes
-        → call (machineAfter xs) (step s) .answer .number ≡ 0
-        → (what : Instruction) (lock′ : Bool) (bytes′ : ℕ) (f : Form) → decode (t .string) ≡ decoded.Found what lock′ bytes′
-        → _≡_ {A = Option Form} (formOf what) (some f) → call (machineAfter between) (step t) .answer .number ≡ 0
-        → name ≡ nameAt (t .processor) (history p between)
-        → Agree (useMade t bytes′ f .bytesRead) (take (handleLength (i .size)) (call (machineAfter xs) (step s) .answer .cpu))
-        → Works (encodeMade s i) (useMade t bytes′ f) (call (machineAfter between) (step t) .answer .cpu)
-    steps-work i lock bytes r ne what lock′ bytes′ f r′ q nu names agree =
-        let k = keyOf xs name in
-        let l = cpu-length (viewGiven p) s (not-refused xs (step s) ne) in
-        let accepted = not-refused between (step t) nu in
-        let l′ = cpu-length (viewGiven p) t accepted in
-        let given-handle : take (handleLength (i .size)) (call (machineAfter xs) (step s) .answer .cpu) ≡ encodedHandle i k (s .cpu) =
-        ap (take (handleLength (i .size))) (cpu-after xs s ne (instruction.EncodeKey i) lock bytes r) ∙ handle-given i k (s .cpu) l bytes in
-        let same = subst (Agree (useMade t bytes′ f .bytesRead)) given-handle agree in
-        let after : call (machineAfter between) (step t) .answer .cpu ≡ advanced bytes′ (used (t .memory) bytes′ f k (t .cpu)) =
-        cpu-after between t nu what lock′ bytes′ r′
-        ∙ ap (advanced bytes′)
-        (execute-form (t .memory) (t .random) what bytes′ (keyOf between (nameAt (t .processor) (history p between))) (t .cpu) f q)
-        ∙ ap (λ (x : IwKey). advanced bytes′ (used (t .memory) bytes′ f x (t .cpu))) (same-key names) in
-        let fits = form-registers (t .string) what lock′ bytes′ f r′ q in
-        let n = read-length (viewGiven p) t accepted what lock′ bytes′ f r′ q in (
-          ap zf after ∙ use-zf i k (s .cpu) l (t .memory) bytes′ f fits (t .cpu) l′ n same,
-          λ j h. ap (xmm j) after ∙ use-xmm i k (s .cpu) l (t .memory) bytes′ f fits (t .cpu) l′ n same j h,
-        )
+    same-key : (q : ℕ) → name ≡ nameAt q (history p between) → keyOf between (nameAt q (history p between)) ≡ k
+    same-key q e =
+        ap (keyOf between) (sym e) ∙ key-more p xs (step s ∷ ys) name (name-given p xs (machineAfter xs) (history p xs) (holds xs) (s .processor))
+
+    module _ (i : EncodeKey) (lock : Bool) (bytes : ℕ) (r : decode (s .string) ≡ decoded.Found (instruction.EncodeKey i) lock bytes)
+        (ne : call (machineAfter xs) (step s) .answer .number ≡ 0) where
+      encode-length : length (s .cpu) ≡ cpuSize
+      encode-length = cpu-length (viewGiven p) s (not-refused xs (step s) ne)
+
+      given-handle : take (handleLength (i .size)) (call (machineAfter xs) (step s) .answer .cpu) ≡ encodedHandle i k (s .cpu)
+      given-handle =
+          ap (take (handleLength (i .size))) (cpu-after xs s ne (instruction.EncodeKey i) lock bytes r) ∙ handle-given i k (s .cpu) encode-length bytes
+
+      -- the use t
+      steps-work : (t : StepCall) (what : Instruction) (lock′ : Bool) (bytes′ : ℕ) (f : Form) → decode (t .string) ≡ decoded.Found what lock′ bytes′
+          → _≡_ {A = Option Form} (formOf what) (some f) → call (machineAfter between) (step t) .answer .number ≡ 0
+          → name ≡ nameAt (t .processor) (history p between)
+          → Agree (useMade t bytes′ f .bytesRead) (take (handleLength (i .size)) (call (machineAfter xs) (step s) .answer .cpu))
+          → Works (encodeMade s i) (useMade t bytes′ f) (call (machineAfter between) (step t) .answer .cpu)
+      steps-work t what lock′ bytes′ f r′ q nu names agree =
+          let l = encode-length in
+          let accepted = not-refused between (step t) nu in
+          let l′ = cpu-length (viewGiven p) t accepted in
+          let same = subst (Agree (useMade t bytes′ f .bytesRead)) given-handle agree in
+          let after : call (machineAfter between) (step t) .answer .cpu ≡ advanced bytes′ (used (t .memory) bytes′ f k (t .cpu)) =
+          cpu-after between t nu what lock′ bytes′ r′
+          ∙ ap (advanced bytes′)
+          (execute-form (t .memory) (t .random) what bytes′ (keyOf between (nameAt (t .processor) (history p between))) (t .cpu) f q)
+          ∙ ap (λ (x : IwKey). advanced bytes′ (used (t .memory) bytes′ f x (t .cpu))) (same-key (t .processor) names) in
+          let fits = form-registers (t .string) what lock′ bytes′ f r′ q in
+          let n = read-length (viewGiven p) t accepted what lock′ bytes′ f r′ q in (
+            ap zf after ∙ use-zf i k (s .cpu) l (t .memory) bytes′ f fits (t .cpu) l′ n same,
+            λ j h. ap (xmm j) after ∙ use-xmm i k (s .cpu) l (t .memory) bytes′ f fits (t .cpu) l′ n same j h,
+          )
+
+      -- the counter call c
+      call-counts : (c : CounterCall) → call (machineAfter between) (counter c) .answer .number ≡ 0 → name ≡ nameAt (c .processor) (history p between)
+          → Agree (c .handle) (take (handleLength (i .size)) (call (machineAfter xs) (step s) .answer .cpu))
+          → Counts (encodeMade s i) c (call (machineAfter between) (counter c) .answer)
+      unfolding perform
+      call-counts c nc names agree =
+          let after : counted c (processorAt (machineAfter between) (c .processor) .key) ≡ counted c k =
+          ap (counted c) (named-key between (counter c) nc (c .processor) refl ∙ same-key (c .processor) names) in
+          let all = after
+          ∙ counter-counts i k (s .cpu) encode-length c (handle-sized (viewGiven p) c (not-refused between (counter c) nc))
+          (subst (Agree (c .handle)) given-handle agree) in
+          let o = was-performed between (counter c) nc in
+          ((λ j. o j .answer .cpu) ∙ (λ j. all j .cpu), (λ j. o j .answer .buffer) ∙ (λ j. all j .buffer))
 
   use-works : (xs : List Call) (e : Call) (ys : List Call) (u : Call)
       → (encode : Encode) → _≡_ {A = Option Encode} (encodeOf e) (some encode) → call (machineAfter xs) e .answer .number ≡ 0
@@ -215,9 +249,25 @@ module _ (p : PowerOn) (m : Machine) (first : Holds p [] m (atFirst p)) where
       → Agree (y .bytesRead) (take (handleLength (i .size)) (call (machineAfter xs) (step s) .answer .cpu))
       → Works (encodeMade s i) y (call (machineAfter (xs ++ step s ∷ ys)) c .answer .cpu))
       (λ t what lock′ bytes′ f r′ q ne′ nu′ names agree.
-      steps-work xs s ys t i lock bytes r ne′ what lock′ bytes′ f r′ q nu′ names agree)
+      steps-work xs s ys i lock bytes r ne′ t what lock′ bytes′ f r′ q nu′ names agree)
       u made qu)
       e encode qe ne nu
+
+  counter-works : (xs : List Call) (e : Call) (ys : List Call) (c : CounterCall)
+      → (encode : Encode) → _≡_ {A = Option Encode} (encodeOf e) (some encode) → call (machineAfter xs) e .answer .number ≡ 0
+      → call (machineAfter (xs ++ e ∷ ys)) (counter c) .answer .number ≡ 0
+      → nameAt (encode .processor) (history p xs) ≡ nameAt (c .processor) (history p (xs ++ e ∷ ys))
+      → Agree (c .handle) (take (handleLength (encode .size)) (call (machineAfter xs) e .answer .cpu))
+      → Counts encode c (call (machineAfter (xs ++ e ∷ ys)) (counter c) .answer)
+  counter-works xs e ys c encode qe =
+      encode-cases
+      (λ u x.
+      call (machineAfter xs) u .answer .number ≡ 0 → call (machineAfter (xs ++ u ∷ ys)) (counter c) .answer .number ≡ 0
+      → nameAt (x .processor) (history p xs) ≡ nameAt (c .processor) (history p (xs ++ u ∷ ys))
+      → Agree (c .handle) (take (handleLength (x .size)) (call (machineAfter xs) u .answer .cpu))
+      → Counts x c (call (machineAfter (xs ++ u ∷ ys)) (counter c) .answer))
+      (λ s i lock bytes r ne. call-counts xs s ys i lock bytes r ne c)
+      e encode qe
 
 -- ---- the theorem
 
@@ -246,15 +296,18 @@ demand-3 p ok calls =
       names = T-true (everyName (given p calls) (history p calls)) (last .givens);
       uses =
           λ xs e ys u zs split encode qe ne made qu nu names agree.
-          let r = run m calls in
-          let again : calls ≡ (xs ++ e ∷ ys) ++ u ∷ zs = split ∙ sym (append-assoc xs (e ∷ ys) (u ∷ zs)) in
-          let gave : answerAt r (length xs) ≡ call (run m xs .machine) e .answer =
-          ap (λ (l : List Call). answerAt (run m l) (length xs)) split ∙ answer-at m xs e (ys ++ u ∷ zs) in
-          let gets : answerAt r (length (xs ++ e ∷ ys)) ≡ call (run m (xs ++ e ∷ ys) .machine) u .answer =
-          ap (λ (l : List Call). answerAt (run m l) (length (xs ++ e ∷ ys))) again ∙ answer-at m (xs ++ e ∷ ys) u zs in
-          subst (λ (a : Answer). Works encode made (a .cpu)) (sym gets)
-          (use-works p m first xs e ys u encode qe
-          (ap (λ (a : Answer). a .number) (sym gave) ∙ ne) made qu
-          (ap (λ (a : Answer). a .number) (sym gets) ∙ nu) names
-          (subst (λ (a : Answer). Agree (made .bytesRead) (take (handleLength (encode .size)) (a .cpu))) gave agree));
+          by-answers m calls xs e ys u zs split
+          (λ a b. a .number ≡ 0 → b .number ≡ 0 → Agree (made .bytesRead) (take (handleLength (encode .size)) (a .cpu)) → Works encode made (b .cpu))
+          (λ ne nu agree. use-works p m first xs e ys u encode qe ne made qu nu names agree) ne nu agree;
+    }
+
+pub counter-calls : (p : PowerOn) → powerOn p .answer .number ≡ 0 → (calls : List Call) → CounterCalls p calls (run (powerOn p .machine) calls)
+counter-calls p ok calls =
+    let m = powerOn p .machine in
+    record {
+      counts =
+          λ xs e ys c zs split encode qe ne nc names agree.
+          by-answers m calls xs e ys (counter c) zs split
+          (λ a b. a .number ≡ 0 → b .number ≡ 0 → Agree (c .handle) (take (handleLength (encode .size)) (a .cpu)) → Counts encode c b)
+          (λ ne nc agree. counter-works p m (power-on-holds p ok) xs e ys c encode qe ne nc names agree) ne nc agree;
     }

@@ -11,7 +11,7 @@ use borrow.Author.Tests.{eqb-true, eqb-false, eq-eqb, ne-eqb}
 use Rattle.bits.proofs.Choice.{cond-on, cond-off, on-cond}
 use Rattle.model.specs.Calls.{PowerOn, Call, lentCpu, lentBuffer, Outcome}
 use Rattle.model.specs.Execution.{powerOn, call, Run, run}
-use Rattle.model.specs.Demand3.{Demand3}
+use Rattle.model.specs.Demand3.{Demand3, CounterCalls}
 use Rattle.model.specs.Status.{StatusRegisters}
 use Rattle.model.specs.Layout.{machineSize, machineBytes, machineAt, Shaped}
 use Rattle.model.specs.Lent.{Lent, into, wrongSize, powerOnLent, callLent, runLent}
@@ -20,7 +20,7 @@ use Rattle.model.proofs.Bytes.{bytes-length, at-bytes}
 use Rattle.model.proofs.Frames.{refused-kept}
 use Rattle.model.proofs.Shapes.{fresh-shaped, call-shaped}
 use Rattle.model.proofs.Validities.{power-on-valid}
-use Rattle.model.proofs.Demand3.{demand-3}
+use Rattle.model.proofs.Demand3.{demand-3, counter-calls}
 use Rattle.model.proofs.Registers.{status-registers}
 
 -- ---- a refused call
@@ -83,6 +83,9 @@ module _ (block : List ℕ) (p : PowerOn) (ok : powerOnLent block p .answer .num
 
   pub demand-3-lent : (calls : List Call) → Demand3 p calls (runLent (powerOnLent block p .block) calls)
   demand-3-lent calls = subst (Demand3 p calls) (sym (run-on calls)) (demand-3 p powered calls)
+
+  pub counter-calls-lent : (calls : List Call) → CounterCalls p calls (runLent (powerOnLent block p .block) calls)
+  counter-calls-lent calls = subst (CounterCalls p calls) (sym (run-on calls)) (counter-calls p powered calls)
 
   pub status-registers-lent : (calls : List Call) → StatusRegisters p calls (runLent (powerOnLent block p .block) calls)
   status-registers-lent calls = subst (StatusRegisters p calls) (sym (run-on calls)) (status-registers p powered calls)

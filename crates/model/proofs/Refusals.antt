@@ -5,17 +5,20 @@ use mathlib.Core.Bool.{Bool, true, false, cond, not, _&&_, _||_, or-false}
 use mathlib.Core.List.{List, [], _∷_}
 use mathlib.Core.Option.{Option, none, some}
 use Prim.Native.Nat.{ℕ, zero, suc, _<_, _≤_}
-use lib.Dec.{T, eqb, leb}
+use lib.Dec.{T, eqb, leb, ltb}
 use lib.ListN.{length, take, drop}
 use borrow.Author.Tests.{leb-false, ltb-false, eqb-true, not-false}
-use Rattle.bits.proofs.Choice.{and-left, and-right, on-cond}
+use Rattle.bits.proofs.Choice.{and-left, and-right, or-left, or-right, on-cond}
+use Rattle.fips197.specs.declared.KeySize.the-variants.{Aes128, Aes256}
 use Rattle.isa.specs.Decode.{decode}
+use Rattle.isa.specs.Ranges.{handleLength}
 use Rattle.isa.specs.declared.Decoded.the-variants as decoded
 use Rattle.isa.specs.declared.Instruction.{Instruction}
 use Rattle.model.specs.Cpu.{cpuSize}
 use Rattle.model.specs.Forms.{Form, formOf, handleAddress}
-use Rattle.model.specs.Calls.{StepCall, Call, step, taken}
-use Rattle.model.specs.Refusals.{View, Test, Asked, first, of, ofDecoded, ofInstruction, ofHandle, memoryLimit, randomLength, instructionFault, outside, tests, asked, operands, stepRefusal, refusal}
+use Rattle.model.specs.Calls.{StepCall, CounterCall, Call, step, counter, taken}
+use Rattle.model.specs.Counter.{sizeOf}
+use Rattle.model.specs.Refusals.{View, Test, Asked, first, of, ofDecoded, ofInstruction, ofHandle, memoryLimit, bufferLimit, badSize, randomLength, instructionFault, outside, tests, asked, operands, stepRefusal, refusal}
 
 -- none of the tests holds
 abbrev pub Clear : List Test → Type 0
@@ -120,3 +123,30 @@ module _ (v : View) (s : StepCall) (accepted : refusal v (step s) ≡ 0) where
       sym (ap (of (λ u. outside (length (s .memory)) (handleAddress (s .cpu) bytes (u .handle)) (u .size))) r)
       ∙ sym (ap (ofDecoded (λ i lock bytes. ofHandle (outside (length (s .memory))) (s .cpu) bytes i)) q)
       ∙ passes v (step s) accepted .1 .1 .1 .1 .1 .1 .1 .1 .1 .1 .1 .1 .1 .0
+
+-- refusal 18
+module _ (v : View) (c : CounterCall) (accepted : refusal v (counter c) ≡ 0) where
+  abbrev known : Bool
+  known = eqb (length (c .handle)) (handleLength Aes128) || eqb (length (c .handle)) (handleLength Aes256)
+
+  sizes : badSize c ≡ false
+  unfolding tests
+  sizes = passes v (counter c) accepted .1 .1 .1 .1 .0
+
+  small-and-known : (ltb bufferLimit (length (c .buffer)) || not known) ≡ false
+  small-and-known = or-left (ltb bufferLimit (length (c .buffer)) || not known) (not (eqb (length (c .counter)) 16)) sizes
+
+  pub counter-block : length (c .counter) ≡ 16
+  counter-block =
+      eqb-true (length (c .counter)) 16
+      (not-false (eqb (length (c .counter)) 16) (or-right (ltb bufferLimit (length (c .buffer)) || not known) (not (eqb (length (c .counter)) 16)) sizes))
+
+  pub handle-sized : length (c .handle) ≡ handleLength (sizeOf (c .handle))
+  handle-sized =
+      go (eqb (length (c .handle)) (handleLength Aes128)) refl
+      (not-false known (or-right (ltb bufferLimit (length (c .buffer))) (not known) small-and-known))
+    where
+      go : (t : Bool) → eqb (length (c .handle)) (handleLength Aes128) ≡ t → (t || eqb (length (c .handle)) (handleLength Aes256)) ≡ true
+          → length (c .handle) ≡ handleLength (cond t Aes128 Aes256)
+      go true e k = eqb-true (length (c .handle)) (handleLength Aes128) e
+      go false e k = eqb-true (length (c .handle)) (handleLength Aes256) k

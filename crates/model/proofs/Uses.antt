@@ -1,4 +1,4 @@
--- A use of a handle that an encode gave, both under one IWKey: it works exactly when size, privilege and direction allow it.
+-- A use of a handle that an encode gave, both under one IWKey: it works exactly when size, privilege and direction allow it. So does a counter call.
 -- Assumes nothing.
 use mathlib.Core.Path.{_≡_, _∙_, refl, sym, ap, ap₂}
 use mathlib.Core.Bool.{Bool, true, false, cond, not, _&&_, _||_, Bool·not-not, false≢true}
@@ -11,7 +11,7 @@ use lib.Dec.{T, eqb, ltb, eqb·suc-zero}
 use lib.ListN.{length, take, replicate}
 use lib.Seq.{sets, take-length, take-take}
 use borrow.Author.Tests.{lt-ltb, eqb-true}
-use Rattle.fips197.specs.Aes.{decrypt}
+use Rattle.fips197.specs.Aes.{encrypt, decrypt}
 use Rattle.fips197.proofs.Undo.{encrypt-length, inv-cipher-length}
 use Rattle.fips197.specs.KeyExpansion.{keyExpansion}
 use Rattle.handle.specs.Format.{aad, aadOf, restrictions}
@@ -27,11 +27,14 @@ use Rattle.isa.specs.Ranges.{handleLength}
 use Rattle.isa.specs.declared.EncodeKey.{EncodeKey}
 use Rattle.isa.proofs.Ranges.{length-few}
 use Rattle.bits.specs.Words.{leBytes}
+use Rattle.sp800_38a.specs.Counter.{ctr}
 use Rattle.isa.specs.Address.{nextRip}
 use Rattle.model.specs.Numbers.{bit}
 use Rattle.model.specs.Cpu.{xmmAt, registerAt, ripAt, rflagsAt, cpuSize, xmm, register, rip, rflags, cpl, zf, flags, withZf, mapXmm}
 use Rattle.model.specs.Forms.{Form, registerOf, handleRead}
 use Rattle.model.specs.Instructions.{typeOf, keyFrom, encodedHandle, encoded, forbids, illegal, openedFor, aes, ciphered, used, advanced}
+use Rattle.model.specs.Calls.{CounterCall}
+use Rattle.model.specs.Counter.{Counted, sizeOf, countedBy, counted}
 use Rattle.model.specs.Demand3.{Encode, Agree, directionAllows, permits, member}
 use Rattle.model.specs.declared.IwKey.{IwKey}
 use Rattle.model.proofs.Parts.{part-before, part-filled, part-length}
@@ -208,11 +211,11 @@ module _ (f : Form) (fits : T (registers (f .blocks))) (key cpu : List ℕ) (l :
 -- ---- both together
 
 -- AES depends on the size of the key alone
-aes-same : (d : Direction) (s t : KeySize) (key b : List ℕ) → eqb (nk s) (nk t) ≡ true → aes d t key b ≡ aes d s key b
-aes-same d Aes128 Aes128 key b q = refl
-aes-same d Aes128 Aes256 key b q = absurd (false≢true q)
-aes-same d Aes256 Aes128 key b q = absurd (false≢true q)
-aes-same d Aes256 Aes256 key b q = refl
+aes-same : (d : Direction) (s t : KeySize) (key : List ℕ) → eqb (nk s) (nk t) ≡ true → aes d t key ≡ aes d s key
+aes-same d Aes128 Aes128 key q = refl
+aes-same d Aes128 Aes256 key q = absurd (false≢true q)
+aes-same d Aes256 Aes128 key q = absurd (false≢true q)
+aes-same d Aes256 Aes256 key q = refl
 
 module _ (e : EncodeKey) (k : IwKey) (before : List ℕ) (l : length before ≡ cpuSize)
     (memory : List ℕ) (bytes : ℕ) (f : Form) (fits : T (registers (f .blocks))) (cpu : List ℕ) (m : length cpu ≡ cpuSize)
@@ -240,7 +243,37 @@ module _ (e : EncodeKey) (k : IwKey) (before : List ℕ) (l : length before ≡ 
           → cond (t && member i (f .blocks)) (aes (f .direction) (f .size) (keyFrom (e .size) before) (xmm i cpu)) (xmm i cpu)
           ≡ cond (t && member i (f .blocks)) (aes (f .direction) (e .size) (keyFrom (e .size) before) (xmm i cpu)) (xmm i cpu)
       go true q =
-          ap (λ (b : List ℕ). cond (member i (f .blocks)) b (xmm i cpu))
-          (aes-same (f .direction) (e .size) (f .size) (keyFrom (e .size) before) (xmm i cpu)
+          ap (λ (g : List ℕ → List ℕ). cond (member i (f .blocks)) (g (xmm i cpu)) (xmm i cpu))
+          (aes-same (f .direction) (e .size) (f .size) (keyFrom (e .size) before)
           (sizes-told (made e k before l) (cpl cpu) (f .size) (f .direction) q))
+      go false q = refl
+
+-- ---- a counter call with an encoded handle
+
+module _ (e : EncodeKey) (k : IwKey) (before : List ℕ) (l : length before ≡ cpuSize) (c : CounterCall)
+    (n : length (c .handle) ≡ handleLength (sizeOf (c .handle))) (same : Agree (c .handle) (encodedHandle e k before)) where
+  abbrev encrypts : Bool
+  encrypts = permits (made e k before l) (cpl (c .cpu)) (sizeOf (c .handle)) Encrypt
+
+  pub counter-counts : counted c k
+      ≡ record {
+          cpu = withZf (cond encrypts 0 1) (c .cpu);
+          buffer = cond encrypts (ctr (encrypt (nk (e .size)) (keyFrom (e .size) before)) (c .counter) (c .buffer)) (c .buffer);
+        }
+  unfolding counted
+  counter-counts =
+      ap (λ (o : Option (List ℕ)). countedBy (sizeOf (c .handle)) o c)
+      (opened e k before l (sizeOf (c .handle)) (c .handle) n same Encrypt (cpl (c .cpu)))
+      ∙ go encrypts refl
+    where
+      go : (t : Bool) → encrypts ≡ t
+          → countedBy (sizeOf (c .handle)) (cond t (some (keyFrom (e .size) before)) none) c
+          ≡ record {
+              cpu = withZf (cond t 0 1) (c .cpu);
+              buffer = cond t (ctr (encrypt (nk (e .size)) (keyFrom (e .size) before)) (c .counter) (c .buffer)) (c .buffer);
+            }
+      go true q =
+          ap {B = Counted} (λ (g : List ℕ → List ℕ). record { cpu = withZf 0 (c .cpu); buffer = ctr g (c .counter) (c .buffer) })
+          (aes-same Encrypt (e .size) (sizeOf (c .handle)) (keyFrom (e .size) before)
+          (sizes-told (made e k before l) (cpl (c .cpu)) (sizeOf (c .handle)) Encrypt q))
       go false q = refl
