@@ -2,32 +2,20 @@
 -- Assumes nothing.
 use mathlib.Core.Path.{_≡_, _∙_, refl, sym, ap}
 use mathlib.Core.Bool.{cond}
-use mathlib.Core.List.{List, [], _∷_, _++_, append-assoc}
+use mathlib.Core.List.{List, [], _∷_, _++_}
 use mathlib.Core.Option.{Option, none, some}
 use Prim.Native.Nat.{ℕ, _+_, _*_, _%_, _≤_, _<_}
 use native.Mathlib.Omega.{arith}
-use lib.ListN.{length, take, drop, length-drop, take-append-drop}
-use lib.Seq.{sets, sets-eq, length-take-le, drop-drop}
+use lib.ListN.{length, take, drop, take-append-drop}
 use Rattle.bits.specs.Blocks.{mapBlocks}
 use Rattle.fips197.specs.declared.Direction.{Direction}
 use Rattle.fips197.specs.declared.KeySize.{KeySize}
 use Rattle.model.specs.Cpu.{cpuSize, xmm, withXmm, withZf}
 use Rattle.model.specs.Instructions.{aes, ciphered}
+use Rattle.model.proofs.Parts.{same-part}
 use Rattle.model.proofs.Uses.{aes-length}
 use Rattle.aeskl.specs.Meaning.{Used, usedBy}
 use Rattle.aeskl.proofs.Wide.{wide-done}
-
--- what was read at a place, written there again
-same-part : (l : List ℕ) (at n : ℕ) → at + n ≤ length l → sets l at (take n (drop at l)) ≡ l
-same-part l at n h =
-    let few : n ≤ length (drop at l) = simp length-drop (omega arith) in
-    let k : length (take n (drop at l)) ≡ n = length-take-le n (drop at l) few in
-    sets-eq (take n (drop at l)) l at (omega arith)
-    ∙ ap (λ (m : ℕ). take at l ++ take n (drop at l) ++ drop (at + m) l) k
-    ∙ append-assoc (take at l) (take n (drop at l)) (drop (at + n) l)
-    ∙ ap (λ (t : List ℕ). take at l ++ (take n (drop at l) ++ t)) (sym (drop-drop n at l))
-    ∙ ap (λ (t : List ℕ). take at l ++ t) (take-append-drop n (drop at l))
-    ∙ take-append-drop at l
 
 module _ (direction : Direction) (size : KeySize) (cpu : List ℕ) (whole : length cpu ≡ cpuSize) where
   same-xmm : (n : ℕ) → withXmm n (xmm n cpu) cpu ≡ cpu

@@ -9,7 +9,7 @@ use lib.Dec.{eqb}
 use lib.ListN.{length, getD}
 use borrow.Author.Tests.{eqb-true, eq-eqb}
 use Rattle.bits.proofs.Choice.{cond-on, on-cond}
-use Rattle.model.specs.Calls.{PowerOn, StepCall, ReadCall, WriteCall, Call, step, counter, read, write, settle, sleep, reset, taken, Answer}
+use Rattle.model.specs.Calls.{PowerOn, StepCall, CounterCall, ReadCall, WriteCall, Call, step, counter, read, write, settle, sleep, reset, taken, Answer}
 use Rattle.model.specs.Refusals.{first}
 use Rattle.model.specs.Execution.{powerOn, Run, run}
 use Rattle.model.specs.History.{nameAt, history}
@@ -26,8 +26,9 @@ use Rattle.model.proofs.Lent.{power-on-lent, run-on, demand-3-lent, counter-cal
 use Rattle.model.proofs.Operator.{operator-rule}
 use Rattle.model.proofs.Taken.{taken-unseen}
 use Rattle.model.proofs.Idle.{idle-lent, idle-unseen}
+use Rattle.model.proofs.Counter.{counter-lent}
 use Rattle.keylocker.specs.Meaning.{called}
-use Rattle.keylocker.specs.Promises.{answer, gave, PowerOnPromise, StepPromise, ReadPromise}
+use Rattle.keylocker.specs.Promises.{answer, gave, PowerOnPromise, StepPromise, CounterPromise, ReadPromise}
 use Rattle.keylocker.specs.Executions.{Chain, ended, stepped, counted, didRead, wrote, settled, slept, wasReset, wasTaken, Execution}
 use Rattle.keylocker.proofs.Finishing.{power-on-promised, cpuOf, bufferOf, valueOf, answer-as, promised, read-block, read-value, read-promised}
 
@@ -128,6 +129,10 @@ idle-unseen-c p calls r s x y = both p calls r s isIdle x y (IdleUnseen p calls)
 pub idle-kept-c : (before after cpu : List ℕ) (s : StepCall) (number : ℕ) → StepPromise before s after cpu number → s .string ≡ []
     → (after ≡ before) × (cpu ≡ s .cpu)
 idle-kept-c before after cpu s number h e = let x = h ∙ idle-lent s e before in (λ j. x j .block, λ j. x j .answer .cpu)
+
+-- the block after a counter call, refused or not
+pub counter-kept-c : (before after cpu buffer : List ℕ) (c : CounterCall) (number : ℕ) → CounterPromise before c after cpu buffer number → after ≡ before
+counter-kept-c before after cpu buffer c number h = (λ j. h j .block) ∙ counter-lent before c
 
 -- ---- one execution, and no other
 

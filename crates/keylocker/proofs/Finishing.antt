@@ -18,8 +18,9 @@ use Rattle.model.specs.Layout.{entrySize, machineSize, entryBytes, machineBytes
 use Rattle.model.specs.Lent.{Lent, into, wrongSize, powerOnLent, callLent}
 use Rattle.model.specs.declared.Machine.{Machine}
 use Rattle.model.specs.declared.Processor.{Processor}
-use Rattle.model.proofs.Bytes.{bytes-at, machine-shaped}
+use Rattle.model.proofs.Bytes.{machine-shaped}
 use Rattle.model.proofs.Frames.{by-number, read-kept}
+use Rattle.model.proofs.Lent.{kept-lent}
 use Rattle.model.proofs.InPlace.{processor-few, step-entry}
 use Rattle.model.specs.Records.{noProcessor, processorAt, withProcessor}
 use Rattle.cpuid_model.specs.Calls as cpuid
@@ -160,14 +161,7 @@ module _ (block : List ℕ) (p : PowerOn) where
 module _ (block : List ℕ) (r : ReadCall) (old : ℕ) where
   -- its machine goes back to the bytes that it came from
   pub read-block : callLent block (read r) .block ≡ block
-  unfolding callLent
-  read-block =
-      let m = machineAt block in
-      on-cond (λ (x : Lent). x .block ≡ block) (eqb (length block) machineSize) _ _
-      (λ e.
-      on-cond (λ (l : List ℕ). l ≡ block) (eqb (call m (read r) .answer .number) 0) _ _
-      (λ f. ap machineBytes (read-kept m r) ∙ bytes-at block (eqb-true (length block) machineSize e)) (λ f. refl))
-      (λ e. refl)
+  read-block = kept-lent block (read r) (read-kept (machineAt block) r)
 
   abbrev given-answer : calls.Answer
   given-answer = callLent block (read r) .answer

@@ -1,21 +1,22 @@
 -- The CPU record: what was written is read, and nothing else of what is asked for changes.
 -- Assumes nothing.
-use mathlib.Core.Path.{_≡_, _∙_, refl, sym, ap}
+use mathlib.Core.Path.{_≡_, _∙_, refl, sym, ap, ap₂}
 use mathlib.Core.Bool.{Bool, true, false, cond, not, _&&_, _||_}
 use mathlib.Core.List.{List, [], _∷_}
 use Prim.Native.Nat.{ℕ, _+_, _*_, _^_, _/_, _%_, _≤_, _<_}
 use native.Mathlib.Omega.{arith}
-use lib.Dec.{T, eqb, ltb, ltb→lt}
-use lib.ListN.{length}
-use lib.Seq.{sets, length-sets}
+use lib.Dec.{T, eqb, leb, ltb, ltb→lt}
+use lib.ListN.{length, getD, drop}
+use lib.Seq.{sets, length-sets, getD-drop}
 use borrow.Author.Tests.{eqb-true, eqb-false, ltb-true, ltb-false, not-true}
 use Rattle.bits.specs.Words.{leBytes, leValue}
 use Rattle.bits.proofs.Choice.{cond-off, and-left, and-right, T-true}
-use Rattle.bits.proofs.Words.{le-length, value-le}
-use Rattle.model.specs.Numbers.{clearBit}
-use Rattle.model.specs.Cpu.{xmmAt, rflagsAt, ripAt, cpuSize, xmm, rflags, zf, withXmm, withRip, sixCleared, flags, withZf, mapXmm}
+use Rattle.bits.proofs.Words.{le-length, le-bytes, le-of-value, value-le}
+use Rattle.model.specs.Numbers.{clearBit, allZero}
+use Rattle.model.specs.Cpu.{xmmAt, rflagsAt, ripAt, cplAt, zerosAt, cpuSize, xmm, rflags, cpl, control, zeroFieldSet, zf, withXmm, withRip, sixCleared, flags, withZf, mapXmm}
 use Rattle.model.specs.Demand3.{member}
-use Rattle.model.proofs.Parts.{part-before, part-behind, part-filled}
+use Rattle.model.proofs.Flags.{flags-again}
+use Rattle.model.proofs.Parts.{drop-sets, part-before, part-behind, part-filled, same-part}
 
 -- ---- ZF
 
@@ -62,6 +63,41 @@ zf-rip x cpu =
     let b = leBytes 8 x in
     let n : length b ≡ 8 = le-length 8 x in
     ap (λ (l : List ℕ). leValue l / 2 ^ 6 % 2) (part-behind b cpu 8 rflagsAt ripAt (omega arith))
+
+module _ (z : ℕ) (cpu : List ℕ) where
+  abbrev flagged : List ℕ
+  flagged = leBytes 8 (flags z (rflags cpu))
+
+  pub zf-again : z < 2 → length cpu ≡ cpuSize → withZf z (withZf z cpu) ≡ withZf z cpu
+  zf-again h l =
+      let y = flags z (rflags cpu) in
+      let room : rflagsAt + 8 ≤ length cpu = omega arith in
+      let told = part-filled flagged cpu 8 rflagsAt (le-length 8 y) room in
+      let value : rflags (withZf z cpu) ≡ y % 256 ^ 8 = ap leValue told ∙ value-le 8 y in
+      let same : flags z (rflags (withZf z cpu)) ≡ leValue flagged =
+      ap (flags z) value ∙ flags-again z (rflags cpu) h ∙ sym (value-le 8 y) in
+      ap (λ (v : ℕ). sets (withZf z cpu) rflagsAt (leBytes 8 v)) same
+      ∙ ap (λ (n : ℕ). sets (withZf z cpu) rflagsAt (leBytes n (leValue flagged))) (sym (le-length 8 y))
+      ∙ ap (sets (withZf z cpu) rflagsAt) (le-of-value flagged (le-bytes 8 y) ∙ sym told)
+      ∙ same-part (withZf z cpu) rflagsAt 8 (omega (arith, length-sets cpu rflagsAt flagged))
+
+  -- what stands behind RFLAGS
+  behind-zf : drop cplAt (withZf z cpu) ≡ drop cplAt cpu
+  behind-zf = drop-sets flagged cpu cplAt rflagsAt (omega (arith, le-length 8 (flags z (rflags cpu))))
+
+  byte-zf : (i : ℕ) → getD (withZf z cpu) (cplAt + i) 0 ≡ getD cpu (cplAt + i) 0
+  byte-zf i = sym (getD-drop cplAt (withZf z cpu) i 0) ∙ ap (λ (l : List ℕ). getD l i 0) behind-zf ∙ getD-drop cplAt cpu i 0
+
+  pub cpl-zf : cpl (withZf z cpu) ≡ cpl cpu
+  cpl-zf = byte-zf 0
+
+  pub control-zf : control (withZf z cpu) ≡ control cpu
+  control-zf = byte-zf 1
+
+  pub zeros-zf : zeroFieldSet (withZf z cpu) ≡ zeroFieldSet cpu
+  zeros-zf =
+      ap₂ (λ (x : ℕ) (l : List ℕ). leb 16 x || not (allZero l)) control-zf
+      (part-behind flagged cpu 6 zerosAt rflagsAt (omega (arith, le-length 8 (flags z (rflags cpu)))))
 
 -- ---- XMM registers
 

@@ -10,7 +10,7 @@ use native.Mathlib.Omega.{arith}
 use lib.Dec.{eqb}
 use lib.ListN.{length}
 use borrow.Author.Tests.{eqb-true}
-use Rattle.bits.proofs.Choice.{cond-off, on-cond}
+use Rattle.bits.proofs.Choice.{cond-off}
 use Rattle.bits.proofs.Lists.{no-elements}
 use Rattle.isa.specs.Decode.{decode}
 use Rattle.isa.specs.declared.Decoded.{Decoded}
@@ -23,7 +23,7 @@ use Rattle.model.specs.Instructions.{stepped, executed}
 use Rattle.model.specs.Execution.{done, perform, numberOf, call, run, powerOn}
 use Rattle.model.specs.History.{History, viewGiven, loadIn, makes, loads, moved, history}
 use Rattle.model.specs.Demand3.{Encode, UseMade, encodeIn, useIn, encodeOf, useOf, answerAt}
-use Rattle.model.specs.Layout.{machineSize, machineBytes, machineAt}
+use Rattle.model.specs.Layout.{machineSize, machineAt}
 use Rattle.model.specs.Lent.{into, wrongSize, callLent}
 use Rattle.model.specs.Struck.{struck}
 use Rattle.model.specs.Idle.{isIdle, idleRefusal, idleAnswer, IdleUnseen}
@@ -31,7 +31,7 @@ use Rattle.model.specs.declared.Machine.{Machine}
 use Rattle.model.proofs.Frames.{by-step, by-number, step-loads}
 use Rattle.model.proofs.Histories.{number-told}
 use Rattle.model.proofs.Demand3.{answer-at, holds, power-on-holds}
-use Rattle.model.proofs.Bytes.{bytes-at}
+use Rattle.model.proofs.Lent.{kept-lent}
 use Rattle.model.proofs.Struck.{struck-answers, struck-run}
 
 module _ (s : StepCall) (empty : s .string ≡ []) where
@@ -84,20 +84,18 @@ module _ (s : StepCall) (empty : s .string ≡ []) where
       → callLent block (step s)
       ≡ record { block = block; answer = idleAnswer (cond (eqb (length block) machineSize) (numberOf (machineAt block) (step s)) 1) (step s) }
   unfolding callLent
-  idle-lent block = go (eqb (length block) machineSize) refl
+  idle-lent block =
+      λ j.
+      record {
+        block = kept-lent block (step s) (λ i. idle-call (machineAt block) i .machine) j;
+        answer = go (eqb (length block) machineSize) j;
+      }
     where
-      n : ℕ
-      n = numberOf (machineAt block) (step s)
-
-      back : length block ≡ machineSize → cond (eqb n 0) (machineBytes (machineAt block)) block ≡ block
-      back e = on-cond (λ (b : List ℕ). b ≡ block) (eqb n 0) _ _ (λ q. bytes-at block e) (λ q. refl)
-
-      go : (t : Bool) → eqb (length block) machineSize ≡ t
-          → cond t (into block (call (machineAt block) (step s))) (wrongSize block (s .cpu) []) ≡ record { block = block; answer = idleAnswer (cond t n 1) (step s) }
-      go true q =
-          ap (into block) (idle-call (machineAt block))
-          ∙ (λ j. record { block = back (eqb-true (length block) machineSize q) j; answer = idleAnswer n (step s) })
-      go false q = refl
+      go : (t : Bool)
+          → cond t (into block (call (machineAt block) (step s))) (wrongSize block (s .cpu) []) .answer
+          ≡ idleAnswer (cond t (numberOf (machineAt block) (step s)) 1) (step s)
+      go true = λ i. idle-call (machineAt block) i .answer
+      go false = refl
 
 -- ---- idle steps among other calls
 

@@ -16,7 +16,7 @@ use Rattle.model.specs.Status.{StatusRegisters}
 use Rattle.model.specs.Layout.{machineSize, machineBytes, machineAt, Shaped}
 use Rattle.model.specs.Lent.{Lent, into, wrongSize, powerOnLent, callLent, runLent}
 use Rattle.model.specs.declared.Machine.{Machine}
-use Rattle.model.proofs.Bytes.{bytes-length, at-bytes}
+use Rattle.model.proofs.Bytes.{bytes-length, at-bytes, bytes-at}
 use Rattle.model.proofs.Frames.{refused-kept}
 use Rattle.model.proofs.Shapes.{fresh-shaped, call-shaped}
 use Rattle.model.proofs.Validities.{power-on-valid}
@@ -31,6 +31,17 @@ refused-lent block c =
     on-cond (λ (x : Lent). (x .answer .number ≡ 0 → ⊥) → x .block ≡ block) (eqb (length block) machineSize) _ _
     (λ e n. cond-off (ne-eqb (call (machineAt block) c .answer .number) 0 n) (machineBytes (call (machineAt block) c .machine)) block)
     (λ e n. refl)
+
+-- ---- a call that leaves the machine leaves the bytes that it came from
+
+pub kept-lent : (block : List ℕ) (c : Call) → call (machineAt block) c .machine ≡ machineAt block → callLent block c .block ≡ block
+unfolding callLent
+kept-lent block c kept =
+    on-cond (λ (x : Lent). x .block ≡ block) (eqb (length block) machineSize) _ _
+    (λ e.
+    on-cond (λ (l : List ℕ). l ≡ block) (eqb (call (machineAt block) c .answer .number) 0) _ _
+    (λ f. ap machineBytes kept ∙ bytes-at block (eqb-true (length block) machineSize e)) (λ f. refl))
+    (λ e. refl)
 
 -- ---- a call, and a list of calls
 

@@ -2,6 +2,7 @@ pub mod Parts
 pub mod Lists
 pub mod Refusals
 pub mod Addresses
+pub mod Flags
 pub mod Cpu
 pub mod Uses
 pub mod Frames
@@ -19,5 +20,6 @@ pub mod Shapes
 pub mod InPlace
 pub mod Lent
 pub mod Idle
+pub mod Counter
 pub mod Examples
 pub mod Computed

@@ -93,10 +93,16 @@ no-register-fault v c e q =
     sym (ap (λ (o : Option Asked). of (λ a. ofDecoded (λ i lock bytes. instructionFault (v .features) (a .cpu) i bytes) (a .decoded)) o || operands c .registerFault (v .features)) q)
     ∙ passes v c e .1 .1 .1 .1 .1 .1 .1 .1 .1 .1 .1 .0
 
+-- refusal 4
+pub record-length : (v : View) (c : Call) (cpu : List ℕ) → refusal v c ≡ 0 → operands c .cpu ≡ some cpu → length cpu ≡ cpuSize
+unfolding tests
+record-length v c cpu e q =
+    eqb-true (length cpu) cpuSize
+    (not-false (eqb (length cpu) cpuSize) (sym (ap (of (λ (r : List ℕ). not (eqb (length r) cpuSize))) q) ∙ passes v c e .1 .1 .0))
+
 module _ (v : View) (s : StepCall) (accepted : refusal v (step s) ≡ 0) where
   pub cpu-length : length (s .cpu) ≡ cpuSize
-  unfolding tests
-  cpu-length = eqb-true (length (s .cpu)) cpuSize (not-false (eqb (length (s .cpu)) cpuSize) (passes v (step s) accepted .1 .1 .0))
+  cpu-length = record-length v (step s) (s .cpu) accepted refl
 
   pub memory-length : length (s .memory) ≤ memoryLimit
   unfolding tests

@@ -56,7 +56,7 @@ module _ (f : List ℕ → List ℕ) (whole : (b : List ℕ) → length (f b) �
       ∙ sym (append-assoc (f (counterAt c i)) (outputBlocks f c (i + 1) n) (outputBlocks f c (i + suc n) m))
 
   -- counted from another block
-  output-from : (c : List ℕ) (i j n : ℕ) → outputBlocks f (counterAt c i) j n ≡ outputBlocks f c (i + j) n
+  pub output-from : (c : List ℕ) (i j n : ℕ) → outputBlocks f (counterAt c i) j n ≡ outputBlocks f c (i + j) n
   unfolding outputBlocks flatMap
   output-from c i j zero = refl
   output-from c i j (suc n) =

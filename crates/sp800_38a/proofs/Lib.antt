@@ -1,3 +1,4 @@
 pub mod Counters
 pub mod Ctr
+pub mod Groups
 pub mod Examples
