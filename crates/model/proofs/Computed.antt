@@ -21,7 +21,7 @@ use Rattle.model.specs.Status.{copyStatus, backedUp}
 use Rattle.model.specs.Struck.{struck}
 use Rattle.model.specs.Taken.{isTaken}
 use Rattle.model.specs.Idle.{isIdle}
-use Rattle.model.specs.Examples.{rax, onProcessor, loadIwKey}
+use Rattle.model.specs.Examples.{rax, onProcessor, counts, loadIwKey}
 use Rattle.model.specs.declared.IwKey.{IwKey}
 use Rattle.model.specs.declared.Processor.{Processor}
 use Rattle.model.specs.declared.Machine.{Machine}
@@ -38,6 +38,10 @@ load p eax random x = step (onProcessor p (withXmm 0 (replicate 16 x) (rax eax))
 -- the empty string, with the EAX of a load that has NoBackup
 abbrev pub idle : Call
 idle = step (onProcessor 0 (rax 1) 0 [] [])
+
+-- a counter call, with the same EAX
+abbrev pub counting : Call
+counting = counts (rax 1) 48 16 3
 
 abbrev pub out : ℕ → Call
 out p = write (record { processor = p; cpl = 0; address = 0xD91; value = 1 })
@@ -116,6 +120,8 @@ lines =
     ∷ line (stored ++ taken ∷ []) 1 0 (some 1) (some 1) 0 1 0 true
     -- idle steps: counted, and nothing else
     ∷ line (idle ∷ pending ++ idle ∷ []) 5 0 (some 5) (some 2) 1 1 0 false
+    -- counter calls: the same
+    ∷ line (counting ∷ pending ++ counting ∷ []) 5 0 (some 5) (some 2) 1 1 0 false
     -- reset
     ∷ line (stored ++ reset ∷ []) 0 0 none none 0 0 0 false
     ∷ []
@@ -128,12 +134,12 @@ unfolding refusal tests moved copiedOut settledNames decodeAt modrmOf instructio
 names-computed = refl
 
 -- every `taken`, and every idle step, is struck out, and nothing else
-pub taken-struck : struck isTaken (out 0 ∷ taken ∷ taken ∷ idle ∷ settling 0 ∷ sleeping 1 ∷ reset ∷ load 0 0 [] 1 ∷ taken ∷ [])
-    ≡ out 0 ∷ idle ∷ settling 0 ∷ sleeping 1 ∷ reset ∷ load 0 0 [] 1 ∷ []
+pub taken-struck : struck isTaken (out 0 ∷ taken ∷ taken ∷ idle ∷ counting ∷ settling 0 ∷ sleeping 1 ∷ reset ∷ load 0 0 [] 1 ∷ taken ∷ [])
+    ≡ out 0 ∷ idle ∷ counting ∷ settling 0 ∷ sleeping 1 ∷ reset ∷ load 0 0 [] 1 ∷ []
 taken-struck = refl
 
-pub idle-struck : struck isIdle (out 0 ∷ idle ∷ idle ∷ taken ∷ settling 0 ∷ sleeping 1 ∷ reset ∷ load 0 0 [] 1 ∷ idle ∷ [])
-    ≡ out 0 ∷ taken ∷ settling 0 ∷ sleeping 1 ∷ reset ∷ load 0 0 [] 1 ∷ []
+pub idle-struck : struck isIdle (out 0 ∷ idle ∷ idle ∷ taken ∷ counting ∷ settling 0 ∷ sleeping 1 ∷ reset ∷ load 0 0 [] 1 ∷ idle ∷ [])
+    ≡ out 0 ∷ taken ∷ counting ∷ settling 0 ∷ sleeping 1 ∷ reset ∷ load 0 0 [] 1 ∷ []
 idle-struck = refl
 
 -- which numbers of calls are names: 0, and that of a load; not that of a write, a load that is not ready, a refused one, or past the end

@@ -1,4 +1,4 @@
--- The scope, "Twelve settled examples": K1 to K12 hold; so do those of change requests (ii), (v) and (vi).
+-- The scope, "Twelve settled examples": K1 to K12 hold; so do those of change requests (ii), (v), (vi) and (vii).
 -- Assumes nothing.
 use mathlib.Core.Path.{_≡_, refl, ap}
 use mathlib.Core.List.{List, [], _∷_}
@@ -22,10 +22,11 @@ use Rattle.model.specs.Cpu.{xmmAt, xmm, register, withXmm, withRegister,
 use Rattle.model.specs.Validity.{validProcessors, valid}
 use Rattle.model.specs.Refusals.{tests, refusal}
 use Rattle.model.specs.Instructions.{encoded, openedFor, aes, ciphered, used, loadedKey, advanced, executed}
+use Rattle.model.specs.Counter.{counted}
 use Rattle.model.specs.Backup.{copyOut, settled, withTaken, woken}
 use Rattle.model.specs.Execution.{perform, call}
 use Rattle.model.specs.declared.IwKey.{IwKey}
-use Rattle.model.specs.Examples.{AllFulfilled, rax, rip, cpu, randomKey, xmm3Cpu, examples, addressSizeExamples, takenExamples, idleExamples}
+use Rattle.model.specs.Examples.{AllFulfilled, rax, rip, cpu, randomKey, xmm3Cpu, examples, addressSizeExamples, takenExamples, idleExamples, counterExamples}
 use Rattle.model.proofs.Uses.{aes-length}
 
 -- ---- the examples that encode: what is seen of them does not depend on the tag and the ciphertext
@@ -155,4 +156,22 @@ idle-hold =
     (refl, refl) also (refl, refl) also (refl, refl) also (refl, refl) also (refl, refl) also
     -- refused
     (refl, tt) also (refl, tt) also (refl, tt) also (refl, tt) also (refl, tt) also (refl, tt) also
+    tt
+
+pub counter-hold : AllFulfilled counterExamples
+unfolding call valid validProcessors refusal tests perform counted openedFor
+counter-hold =
+    -- taken
+    (refl, tt) also (refl, tt) also (refl, tt) also
+    -- 18, and its order
+    (refl, tt) also (refl, tt) also (refl, tt) also (refl, tt) also (refl, tt) also (refl, tt) also
+    (refl, tt) also (refl, tt) also (refl, tt) also (refl, tt) also (refl, tt) also (refl, tt) also
+    -- 10 and 11
+    (refl, tt) also (refl, tt) also (refl, tt) also (refl, tt) also (refl, tt) also (refl, tt) also (refl, tt) also
+    -- the wide bit
+    (refl, tt) also
+    -- handles that do not open
+    (refl, refl) also (refl, refl) also (refl, refl) also (refl, refl) also
+    -- refused; the whole CPU record
+    (refl, refl) also (refl, refl) also
     tt

@@ -1,5 +1,5 @@
 -- The scope, "Twelve settled examples": K1 to K12 as one list, with more behind them that no other theorem stands for, and what it is for an example to hold;
--- three more lists, for change requests (ii), (v) and (vi).
+-- four more lists, for change requests (ii), (v), (vi) and (vii).
 -- Assumes nothing.
 use mathlib.Core.Path.{_≡_}
 use mathlib.Core.List.{List, [], _∷_, _++_}
@@ -18,7 +18,7 @@ use Rattle.model.specs.Records.{processorAt}
 use Rattle.model.specs.Cpu as Cpu
 use Rattle.model.specs.Cpu.{cpuSize, rflagsAt, cplAt, controlAt, xmm, register, rflags, withXmm, withRegister, withRip}
 use Rattle.model.specs.Forms.{Form, formOf, handleAddress}
-use Rattle.model.specs.Calls.{PowerOn, StepCall, Call, step, read, write, settle, sleep, taken, stepOf, Outcome}
+use Rattle.model.specs.Calls.{PowerOn, StepCall, Call, step, counter, read, write, settle, sleep, taken, stepOf, Outcome}
 use Rattle.model.specs.Execution.{powerOn, call, run}
 use Rattle.model.specs.declared.IwKey.{IwKey}
 
@@ -43,6 +43,8 @@ pub data Sight : Type 0 where
   rflagsIs : ℕ → Sight
   -- the whole CPU record
   cpuIs : List ℕ → Sight
+  -- the lent buffer
+  bufferIs : List ℕ → Sight
   -- the value read
   valueIs : ℕ → Sight
 
@@ -84,6 +86,7 @@ Seen (xmmIs n b) c o = xmm n (o .answer .cpu) ≡ b
 Seen (ripIs x) c o = Cpu.rip (o .answer .cpu) ≡ x
 Seen (rflagsIs x) c o = rflags (o .answer .cpu) ≡ x
 Seen (cpuIs b) c o = o .answer .cpu ≡ b
+Seen (bufferIs b) c o = o .answer .buffer ≡ b
 Seen (valueIs x) c o = o .answer .value ≡ x
 
 abbrev pub Fulfilled : Example → Type 0
@@ -107,6 +110,9 @@ noFirmware = record { count = 1; features = 61 }
 
 abbrev pub noNoBackup : PowerOn
 noNoBackup = record { count = 1; features = 47 }
+
+abbrev pub noWide : PowerOn
+noWide = record { count = 1; features = 59 }
 
 abbrev pub noFeatures : PowerOn
 noFeatures = record { count = 1; features = 0 }
@@ -155,6 +161,16 @@ statusReads address before x = after allFeatures before (read (record { processo
 -- IA32_IWKEYBACKUP_STATUS
 abbrev pub backupStatus : List Call → ℕ → Example
 backupStatus = statusReads 0x991
+
+-- a counter call on a processor: the first bytes of its handle and how many zeros follow, how many zeros its counter block has, and how many bytes its buffer
+abbrev pub countsOn : ℕ → List ℕ → List ℕ → ℕ → ℕ → ℕ → Call
+countsOn p c handle zeros block bytes =
+    counter
+    (record { processor = p; cpu = c; handle = handle ++ replicate zeros 0; counter = replicate block 0; buffer = replicate bytes 0x5A })
+
+-- the same on the only processor, with a handle of zeros
+abbrev pub counts : List ℕ → ℕ → ℕ → ℕ → Call
+counts c = countsOn 0 c []
 
 -- ---- strings
 
@@ -342,4 +358,51 @@ idleExamples =
     -- F0 and F3 alone are not empty: 9, as 67 is above
     ∷ gives (on cpu 0 (0xF0 ∷ [])) 9
     ∷ gives (on cpu 0 (0xF3 ∷ [])) 9
+    ∷ []
+
+-- change request (vii): counter calls
+abbrev pub counterExamples : List Example
+counterExamples =
+    let gives : Call → ℕ → Example = λ c n. after allFeatures [] c n nothing in
+    let control : ℕ → List ℕ = λ bits. sets cpu controlAt (bits ∷ []) in
+    -- "handle with its size (48 or 64), a 16-byte counter block"; 65,536 bytes are not above the limit
+    gives (counts cpu 48 16 3) 0
+    ∷ gives (counts cpu 64 16 0) 0
+    ∷ gives (counts cpu 48 16 65536) 0
+    -- "18 a buffer above 65,536 bytes, another handle size or a counter block not of 16 bytes"
+    ∷ gives (counts cpu 48 16 65537) 18
+    ∷ gives (counts cpu 47 16 3) 18
+    ∷ gives (counts cpu 63 16 3) 18
+    ∷ gives (counts cpu 65 16 3) 18
+    ∷ gives (counts cpu 48 15 3) 18
+    ∷ gives (counts cpu 48 17 3) 18
+    -- "checked directly after 5": 3, 4 and 5 come first of two
+    ∷ gives (countsOn 1 cpu [] 47 16 3) 3
+    ∷ gives (counts [] 47 16 3) 4
+    ∷ gives (counts (sets cpu cplAt (4 ∷ [])) 47 16 3) 5
+    ∷ gives (counts (control 0x13) 47 16 3) 5
+    -- and 10 and 11 behind it
+    ∷ gives (counts (control 2) 47 16 3) 18
+    ∷ gives (counts (control 0x0B) 47 16 3) 18
+    -- "10 and 11 follow as for the single form": CR4.KL, CR4.OSFXSR, CR0.EM, features, firmware, CR0.TS; 10 of both
+    ∷ gives (counts (control 2) 48 16 3) 10
+    ∷ gives (counts (control 1) 48 16 3) 10
+    ∷ gives (counts (control 7) 48 16 3) 10
+    ∷ after noFeatures [] (counts cpu 48 16 3) 10 nothing
+    ∷ after noFirmware [] (counts cpu 48 16 3) 10 nothing
+    ∷ gives (counts (control 0x0B) 48 16 3) 11
+    ∷ gives (counts (control 0x0A) 48 16 3) 10
+    -- "on every machine the result equals the single form throughout": the wide bit is not asked
+    ∷ after noWide [] (counts cpu 48 16 3) 0 nothing
+    -- "An empty buffer still has its handle opened.": reserved AAD bits, ZF 1
+    ∷ after allFeatures [] (countsOn 0 cpu (0x08 ∷ []) 47 16 0) 0 (rflagsIs 0x40)
+    -- "A handle that the encrypting use would fail leaves the buffer unchanged": the wrong type, CPL 0 only at CPL 3, no encryption
+    ∷ after allFeatures [] (countsOn 0 cpu (0 ∷ 0 ∷ 0 ∷ 1 ∷ []) 44 16 3) 0 (bufferIs (replicate 3 0x5A))
+    ∷ after allFeatures [] (countsOn 0 (sets cpu cplAt (3 ∷ [])) (0x01 ∷ []) 47 16 3) 0 (rflagsIs 0x40)
+    ∷ after allFeatures [] (countsOn 0 cpu (0x02 ∷ []) 47 16 3) 0 (rflagsIs 0x40)
+    -- "as a refusal does"
+    ∷ after allFeatures [] (counts (control 2) 48 16 3) 10 (bufferIs (replicate 3 0x5A))
+    -- "The CPU record changes in its flags only"
+    ∷ after allFeatures [] (countsOn 0 (onesCpu 3) (0x02 ∷ []) 47 16 3) 0
+    (cpuIs (sets (onesCpu 3) rflagsAt (0x6A ∷ 0xF7 ∷ replicate 6 0xFF)))
     ∷ []
