@@ -29,7 +29,7 @@ use Rattle.model.specs.Refusals.{tests, refusal}
 use Rattle.model.specs.Instructions.{encoded, aes, advanced, executed}
 use Rattle.model.specs.Execution.{perform, call, run, powerOn}
 use Rattle.model.specs.History.{viewGiven, nameAt, copiedOut, settledNames, moved, history}
-use Rattle.model.specs.Demand3.{Encode, UseMade, encodeOf, useOf, Agree, Works, answerAt, Demand3}
+use Rattle.model.specs.Demand3.{Encode, UseMade, encodeOf, useOf, Agree, Works, answerAt}
 use Rattle.model.specs.Examples.{rax, on, encrypt, encodeKey128}
 use Rattle.model.specs.declared.IwKey.{IwKey}
 use Rattle.model.specs.declared.Machine.{Machine}
@@ -42,24 +42,24 @@ use Rattle.model.proofs.Examples.{spelled, spelled-eq}
 
 -- the calls before the encode, its source, the calls between; the use's processor, CPL, RAX and string, the key size, blocks and address size that the string
 -- has, and the memory behind the handle
-record Case : Type 0 where
-  before : List Call
-  source : ℕ
-  between : List Call
-  processor : ℕ
-  cpl : ℕ
-  address : ℕ
-  string : List ℕ
-  size : KeySize
-  blocks : List ℕ
-  addressSize : AddressSize
-  tail : List ℕ
+pub record Case : Type 0 where
+  pub before : List Call
+  pub source : ℕ
+  pub between : List Call
+  pub processor : ℕ
+  pub cpl : ℕ
+  pub address : ℕ
+  pub string : List ℕ
+  pub size : KeySize
+  pub blocks : List ℕ
+  pub addressSize : AddressSize
+  pub tail : List ℕ
 
-abbrev machine : Machine
+abbrev pub machine : Machine
 machine = powerOn two .machine
 
 -- the encoded key
-abbrev key : List ℕ
+abbrev pub key : List ℕ
 key = replicate 16 0x33
 
 -- what stands in each XMM register before the use, and all of them
@@ -76,11 +76,11 @@ atRax size = operand.Memory (record { base = base.Register 0; index = index.None
 
 module _ (c : Case) where
   -- ENCODEKEY128 on processor 0
-  abbrev encode : StepCall
+  abbrev pub encode : StepCall
   encode = on (withXmm 0 key (rax (c .source))) 0 encodeKey128
 
   -- the 48 bytes that it gives
-  abbrev handle : List ℕ
+  abbrev pub handle : List ℕ
   handle = take 48 (call (run machine (c .before) .machine) (step encode) .answer .cpu)
 
   abbrev useCpu : List ℕ
@@ -90,7 +90,7 @@ module _ (c : Case) where
   abbrev useOver : List ℕ → StepCall
   useOver memory = record { processor = c .processor; cpu = useCpu; memory = memory; random = []; string = c .string }
 
-  abbrev upTo : List Call
+  abbrev pub upTo : List Call
   upTo = c .before ++ step encode ∷ c .between
 
   abbrev last : Call
@@ -100,7 +100,7 @@ module _ (c : Case) where
   calls = c .before ++ step encode ∷ (c .between ++ last ∷ [])
 
   -- what the encode and the use are
-  abbrev encodeSeen : Encode
+  abbrev pub encodeSeen : Encode
   encodeSeen = record { processor = 0; size = Aes128; source = c .source; key = key }
 
   abbrev useSeen : List ℕ → UseMade
@@ -128,12 +128,12 @@ record Meets (c : Case) : Type 0 where
   use-name : nameAt (c .processor) (history two (upTo c)) ≡ 1
 
 -- bytes in front of a memory agree with what is read from its front
-agree-front : (h tail : List ℕ) (n : ℕ) → length h ≤ n → Agree (take n (h ++ tail)) h
+pub agree-front : (h tail : List ℕ) (n : ℕ) → length h ≤ n → Agree (take n (h ++ tail)) h
 agree-front [] tail n b = sym (take-nil (length (take n tail)))
 agree-front (x ∷ h) tail zero b = absurd (not-suc-le-zero b)
 agree-front (x ∷ h) tail (suc n) b = ap (λ (l : List ℕ). x ∷ l) (agree-front h tail n (le-of-suc-le-suc b))
 
-length-least : (size : KeySize) → 48 ≤ handleLength size
+pub length-least : (size : KeySize) → 48 ≤ handleLength size
 length-least Aes128 = omega arith
 length-least Aes256 = omega arith
 
@@ -147,41 +147,39 @@ answer-length m c =
     by-number m (step (encode c)) (λ o. length (o .answer .cpu) ≡ cpuSize)
     (λ e. encoded-length (record { size = Aes128; destination = 1; source = operand.Register 0 }) (processorAt m 0 .key) (encode c .cpu) 5) (λ e. refl)
 
+pub handle-length : (c : Case) → length (handle c) ≡ 48
+handle-length c =
+    let m = run machine (c .before) .machine in
+    length-take-le 48 (call m (step (encode c)) .answer .cpu) (omega (arith, answer-length m c))
+
+-- the number of an answer is the history machine's
+pub number-at : (calls xs : List Call) (d : Call) (ys : List Call) → calls ≡ xs ++ d ∷ ys → refusal (viewGiven two) d ≡ 0
+    → answerAt (run machine calls) (length xs) .number ≡ 0
+unfolding refusal tests
+number-at calls xs d ys split a =
+    let i = length xs in
+    let none : Answer = record { number = 0; cpu = []; buffer = []; value = 0 } in
+    sym (List·getD-map (λ (x : Answer). x .number) (run machine calls .answers) i none)
+    ∙ ap (λ (l : List ℕ). getD l i 0) (demand-3 two refl calls .numbers)
+    ∙ List·getD-map (refusal (viewGiven two)) calls i reset
+    ∙ ap (λ (l : List Call). refusal (viewGiven two) (getD l i reset)) split
+    ∙ ap (refusal (viewGiven two)) (getD-append-seam xs d ys reset)
+    ∙ a
+
 module _ (c : Case) (m : Meets c) where
-  demand : Demand3 two (calls c) (run machine (calls c))
-  demand = demand-3 two refl (calls c)
-
-  number-at : (xs : List Call) (d : Call) (ys : List Call) → calls c ≡ xs ++ d ∷ ys → refusal (viewGiven two) d ≡ 0
-      → answerAt (run machine (calls c)) (length xs) .number ≡ 0
-  unfolding refusal tests
-  number-at xs d ys split a =
-      let i = length xs in
-      let none : Answer = record { number = 0; cpu = []; buffer = []; value = 0 } in
-      sym (List·getD-map (λ (x : Answer). x .number) (run machine (calls c) .answers) i none)
-      ∙ ap (λ (l : List ℕ). getD l i 0) (demand .numbers)
-      ∙ List·getD-map (refusal (viewGiven two)) (calls c) i reset
-      ∙ ap (λ (l : List Call). refusal (viewGiven two) (getD l i reset)) split
-      ∙ ap (refusal (viewGiven two)) (getD-append-seam xs d ys reset)
-      ∙ a
-
-  handle-length : length (handle c) ≡ 48
-  handle-length =
-      let m = run machine (c .before) .machine in
-      length-take-le 48 (call m (step (encode c)) .answer .cpu) (omega (arith, answer-length m c))
-
   works : Works (encodeSeen c) (useSeen c (handle c ++ c .tail)) (after c)
   works =
       let memory = handle c ++ c .tail in
-      demand .uses (c .before) (step (encode c)) (c .between) (last c) [] refl (encodeSeen c) (m .encodes)
-      (number-at (c .before) (step (encode c)) (c .between ++ last c ∷ []) refl (m .encode-accepted))
+      demand-3 two refl (calls c) .uses (c .before) (step (encode c)) (c .between) (last c) [] refl (encodeSeen c) (m .encodes)
+      (number-at (calls c) (c .before) (step (encode c)) (c .between ++ last c ∷ []) refl (m .encode-accepted))
       (useSeen c memory) (m .uses memory)
-      (number-at (upTo c) (last c) [] (sym (append-assoc (c .before) (step (encode c) ∷ c .between) (last c ∷ [])))
-      (ap (λ (h : List ℕ). refusal (viewGiven two) (step (useOver c (h ++ c .tail)))) (spelled-eq 48 (handle c) handle-length)
+      (number-at (calls c) (upTo c) (last c) [] (sym (append-assoc (c .before) (step (encode c) ∷ c .between) (last c ∷ [])))
+      (ap (λ (h : List ℕ). refusal (viewGiven two) (step (useOver c (h ++ c .tail)))) (spelled-eq 48 (handle c) (handle-length c))
       ∙ m .use-accepted (handle c)))
       (m .encode-name ∙ sym (m .use-name))
       (subst (λ (a : Answer). Agree (useSeen c memory .bytesRead) (take 48 (a .cpu)))
       (sym (answer-at machine (c .before) (step (encode c)) (c .between ++ last c ∷ [])))
-      (agree-front (handle c) (c .tail) (handleLength (c .size)) (omega (arith, handle-length, length-least (c .size)))))
+      (agree-front (handle c) (c .tail) (handleLength (c .size)) (omega (arith, handle-length c, length-least (c .size)))))
 
 -- ---- the seven
 
@@ -210,7 +208,7 @@ by string size blocks source between processor =
 abbrev plainly : ℕ → List Call → ℕ → Case
 plainly = by encrypt Aes128 (0 ∷ [])
 
-abbrev otherProcessor : Case
+abbrev pub otherProcessor : Case
 otherProcessor = plainly 0 (out 0 ∷ into 1 ∷ []) 1
 
 -- AESENC128KL xmm15, [rax]
@@ -223,10 +221,10 @@ newStore =
     by (0xF3 ∷ 0x0F ∷ 0x38 ∷ 0xD8 ∷ 0x00 ∷ []) Aes128 (0 ∷ 1 ∷ 2 ∷ 3 ∷ 4 ∷ 5 ∷ 6 ∷ 7 ∷ []) 0 (out 0 ∷ taken ∷ idle ∷ sleeping 1 ∷ into 0 ∷ []) 0
 
 -- AESENC256KL xmm0, [rax]
-abbrev otherSize : Case
+abbrev pub otherSize : Case
 otherSize = by (0xF3 ∷ 0x0F ∷ 0x38 ∷ 0xDE ∷ 0x00 ∷ []) Aes256 (0 ∷ []) 0 [] 0
 
-abbrev unprivileged : Case
+abbrev pub unprivileged : Case
 unprivileged =
     record {
       before = loaded;
@@ -242,7 +240,7 @@ unprivileged =
       tail = [];
     }
 
-abbrev otherDirection : Case
+abbrev pub otherDirection : Case
 otherDirection = plainly 2 [] 0
 
 -- AESENC128KL xmm0, [eax], where [rax] is not canonical

@@ -1,1 +1,2 @@
 pub mod Inhabited
+pub mod Counters

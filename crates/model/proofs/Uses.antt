@@ -257,9 +257,9 @@ module _ (e : EncodeKey) (k : IwKey) (before : List ℕ) (l : length before ≡ 
 
   pub counter-counts : counted c k
       ≡ record {
-          cpu = withZf (cond encrypts 0 1) (c .cpu);
-          buffer = cond encrypts (ctr (encrypt (nk (e .size)) (keyFrom (e .size) before)) (c .counter) (c .buffer)) (c .buffer);
-        }
+        cpu = withZf (cond encrypts 0 1) (c .cpu);
+        buffer = cond encrypts (ctr (encrypt (nk (e .size)) (keyFrom (e .size) before)) (c .counter) (c .buffer)) (c .buffer);
+      }
   unfolding counted
   counter-counts =
       ap (λ (o : Option (List ℕ)). countedBy (sizeOf (c .handle)) o c)
@@ -269,9 +269,9 @@ module _ (e : EncodeKey) (k : IwKey) (before : List ℕ) (l : length before ≡ 
       go : (t : Bool) → encrypts ≡ t
           → countedBy (sizeOf (c .handle)) (cond t (some (keyFrom (e .size) before)) none) c
           ≡ record {
-              cpu = withZf (cond t 0 1) (c .cpu);
-              buffer = cond t (ctr (encrypt (nk (e .size)) (keyFrom (e .size) before)) (c .counter) (c .buffer)) (c .buffer);
-            }
+            cpu = withZf (cond t 0 1) (c .cpu);
+            buffer = cond t (ctr (encrypt (nk (e .size)) (keyFrom (e .size) before)) (c .counter) (c .buffer)) (c .buffer);
+          }
       go true q =
           ap {B = Counted} (λ (g : List ℕ → List ℕ). record { cpu = withZf 0 (c .cpu); buffer = ctr g (c .counter) (c .buffer) })
           (aes-same Encrypt (e .size) (sizeOf (c .handle)) (keyFrom (e .size) before)
