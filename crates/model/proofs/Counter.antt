@@ -22,7 +22,7 @@ use Rattle.sp800_38a.specs.Counter.{counterAt, outputBlocks, ctr}
 use Rattle.sp800_38a.proofs.Ctr.{ctr-length, ctr-twice, ctr-append, ctr-at}
 use Rattle.sp800_38a.proofs.Groups.{output-joined, ctr-group}
 use Rattle.model.specs.Records.{processorAt}
-use Rattle.model.specs.Cpu.{cpuSize, rflagsAt, xmm, rflags, cpl, control, zeroFieldSet, badRecord, flags, withZf, mapXmm}
+use Rattle.model.specs.Cpu.{cpuSize, rflagsAt, xmm, rflags, cpl, control, badRecord, flags, withZf, mapXmm}
 use Rattle.model.specs.Forms.{Form, handleRead}
 use Rattle.model.specs.Calls.{PowerOn, CounterCall, Call, counter, Outcome}
 use Rattle.model.specs.Refusals.{View, Test, test, first, bufferLimit, badSize, invalidOpcode, noMath, tests, refusal}
@@ -58,18 +58,7 @@ counterTests v c =
 -- past 1
 pub counter-refusal : (v : View) (c : CounterCall) → refusal v (counter c) ≡ first (counterTests v c)
 unfolding refusal tests
-counter-refusal v c =
-    ap₂
-    (λ (ud nm : Bool).
-    first
-    (test 3 (leb (v .count) (c .processor))
-    ∷ test 4 (not (eqb (length (c .cpu)) cpuSize))
-    ∷ test 5 (badRecord (c .cpu))
-    ∷ test 18 (badSize c)
-    ∷ test 10 ud
-    ∷ test 11 nm
-    ∷ []))
-    (or-false (invalidOpcode (v .features) (control (c .cpu)) false true false)) (or-false (noMath (control (c .cpu))))
+counter-refusal v c = simp or-false
 
 -- ---- what it moves
 
@@ -86,10 +75,6 @@ counter-moves p past c h = (refl, refl, refl, refl)
 abbrev pub zfOf : Option (List ℕ) → ℕ
 zfOf none = 1
 zfOf (some key) = 0
-
-zf-small : (o : Option (List ℕ)) → zfOf o < 2
-zf-small none = omega arith
-zf-small (some key) = omega arith
 
 module _ (c : CounterCall) (size : KeySize) where
   by-cpu : (o : Option (List ℕ)) → countedBy size o c .cpu ≡ withZf (zfOf o) (c .cpu)
