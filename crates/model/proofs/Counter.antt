@@ -22,7 +22,7 @@ use Rattle.sp800_38a.specs.Counter.{counterAt, outputBlocks, ctr}
 use Rattle.sp800_38a.proofs.Ctr.{ctr-length, ctr-twice, ctr-append, ctr-at}
 use Rattle.sp800_38a.proofs.Groups.{output-joined, ctr-group}
 use Rattle.model.specs.Records.{processorAt}
-use Rattle.model.specs.Cpu.{cpuSize, rflagsAt, xmm, rflags, cpl, control, badRecord, flags, withZf, mapXmm}
+use Rattle.model.specs.Cpu.{cpuSize, rflagsAt, xmm, rflags, cpl, control, badRecord, zf, flags, withZf, mapXmm}
 use Rattle.model.specs.Forms.{Form, handleRead}
 use Rattle.model.specs.Calls.{PowerOn, CounterCall, Call, counter, Outcome}
 use Rattle.model.specs.Refusals.{View, Test, test, first, bufferLimit, badSize, invalidOpcode, noMath, tests, refusal}
@@ -36,7 +36,7 @@ use Rattle.model.specs.Demand3.{Encode, UseMade, loadsKey, encodeOf, use
 use Rattle.model.specs.declared.IwKey.{IwKey}
 use Rattle.model.specs.declared.Machine.{Machine}
 use Rattle.model.proofs.Refusals.{record-length}
-use Rattle.model.proofs.Cpu.{zf-again, cpl-zf, control-zf, zeros-zf, xmm-zf, registers, xmm-mapped}
+use Rattle.model.proofs.Cpu.{zf-written, zf-again, cpl-zf, control-zf, zeros-zf, xmm-zf, registers, mapped-length, xmm-mapped}
 use Rattle.model.proofs.Uses.{aes-length}
 use Rattle.model.proofs.Frames.{by-number, call-performed, accepted-parts}
 use Rattle.model.proofs.Validities.{valid-number}
@@ -75,6 +75,10 @@ counter-moves p past c h = (refl, refl, refl, refl)
 abbrev pub zfOf : Option (List ℕ) → ℕ
 zfOf none = 1
 zfOf (some key) = 0
+
+zf-small : (o : Option (List ℕ)) → zfOf o < 2
+zf-small none = omega arith
+zf-small (some key) = omega arith
 
 module _ (c : CounterCall) (size : KeySize) where
   by-cpu : (o : Option (List ℕ)) → countedBy size o c .cpu ≡ withZf (zfOf o) (c .cpu)
@@ -252,23 +256,43 @@ module _ (size : KeySize) (key cpu : List ℕ) (l : length cpu ≡ cpuSize) wher
 abbrev pub singleForm : CounterCall → ℕ → Operand → Form
 singleForm c n handle = record { direction = Encrypt; size = sizeOf (c .handle); blocks = n ∷ []; handle = handle }
 
--- a handle that gives a key: block i of the buffer is XORed with what the single form, of the same handle at the same CPL, makes of counter block i in an XMM
--- register
-pub counter-single : (c : CounterCall) (k : IwKey) (key : List ℕ) → _≡_ {A = Option (List ℕ)} (opened c k) (some key)
-    → (memory : List ℕ) (bytes : ℕ) (handle : Operand) (n : ℕ) → n < 16 → (cpu : List ℕ) → length cpu ≡ cpuSize → cpl cpu ≡ cpl (c .cpu)
-    → handleRead memory cpu bytes (singleForm c n handle) ≡ c .handle
-    → (i : ℕ) → xmm n cpu ≡ counterAt (c .counter) i → 16 * i ≤ length (c .buffer)
-    → take 16 (drop (16 * i) (counted c k .buffer)) ≡ xorBytes (take 16 (drop (16 * i) (c .buffer))) (xmm n (used memory bytes (singleForm c n handle) k cpu))
-unfolding counted used
-counter-single c k key e memory bytes handle n h cpu l level read i block some′ =
-    let size = sizeOf (c .handle) in
-    let g = aes Encrypt size key in
-    let fits = and-both (ltb n 16 && true) true (and-both (ltb n 16) true (lt→ltb n 16 h) tt) tt in
-    let here : (eqb n n || false) ≡ true = ap (λ (b : Bool). b || false) (eq-eqb n n refl) in
-    let made : xmm n (used memory bytes (singleForm c n handle) k cpu) ≡ g (counterAt (c .counter) i) =
-    ap (λ (o : Option (List ℕ)). xmm n (ciphered Encrypt size (n ∷ []) o cpu))
-    (ap₂ (λ (p : ℕ) (b : List ℕ). openedFor k p size Encrypt b) level read ∙ e)
-    ∙ block-ciphered size key cpu l (n ∷ []) fits n h here ∙ ap g block in
-    ap (λ (o : Option (List ℕ)). take 16 (drop (16 * i) (countedBy size o c .buffer))) e
-    ∙ ctr-at g (aes-length Encrypt size key) (c .counter) (c .buffer) i some′
-    ∙ ap (xorBytes (take 16 (drop (16 * i) (c .buffer)))) (sym made)
+-- it reads the same handle, at the same CPL
+module _ (c : CounterCall) (k : IwKey) (memory : List ℕ) (bytes : ℕ) (handle : Operand) (n : ℕ) (cpu : List ℕ) (l : length cpu ≡ cpuSize)
+    (level : cpl cpu ≡ cpl (c .cpu)) (read : handleRead memory cpu bytes (singleForm c n handle) ≡ c .handle) where
+  abbrev size : KeySize
+  size = sizeOf (c .handle)
+
+  abbrev after : List ℕ
+  after = used memory bytes (singleForm c n handle) k cpu
+
+  used-opened : after ≡ ciphered Encrypt size (n ∷ []) (opened c k) cpu
+  unfolding used
+  used-opened =
+      ap₂ (λ (p : ℕ) (b : List ℕ). ciphered Encrypt size (n ∷ []) (openedFor k p size Encrypt b) cpu) level read
+
+  -- "The CPU record changes in its flags only, set as by a use."
+  pub counter-zf : length (c .cpu) ≡ cpuSize → zf (counted c k .cpu) ≡ zf after
+  counter-zf m =
+      ap zf (counted-cpu c k) ∙ zf-written (zfOf (opened c k)) (c .cpu) (zf-small (opened c k)) m
+      ∙ sym (ap zf used-opened ∙ by (opened c k))
+    where
+      by : (o : Option (List ℕ)) → zf (ciphered Encrypt size (n ∷ []) o cpu) ≡ zfOf o
+      by none = zf-written 1 cpu (omega arith) l
+      by (some key) =
+          let g = aes Encrypt size key in zf-written 0 (mapXmm g (n ∷ []) cpu) (omega arith) (mapped-length g (n ∷ []) cpu ∙ l)
+
+  -- a handle that gives a key: block i of the buffer is XORed with what it makes of counter block i in an XMM register
+  pub counter-single : (key : List ℕ) → _≡_ {A = Option (List ℕ)} (opened c k) (some key) → n < 16
+      → (i : ℕ) → xmm n cpu ≡ counterAt (c .counter) i → 16 * i ≤ length (c .buffer)
+      → take 16 (drop (16 * i) (counted c k .buffer)) ≡ xorBytes (take 16 (drop (16 * i) (c .buffer))) (xmm n after)
+  unfolding counted
+  counter-single key e h i block some′ =
+      let g = aes Encrypt size key in
+      let fits = and-both (ltb n 16 && true) true (and-both (ltb n 16) true (lt→ltb n 16 h) tt) tt in
+      let here : (eqb n n || false) ≡ true = ap (λ (b : Bool). b || false) (eq-eqb n n refl) in
+      let made : xmm n after ≡ g (counterAt (c .counter) i) =
+      ap (xmm n) used-opened ∙ ap (λ (o : Option (List ℕ)). xmm n (ciphered Encrypt size (n ∷ []) o cpu)) e
+      ∙ block-ciphered size key cpu l (n ∷ []) fits n h here ∙ ap g block in
+      ap (λ (o : Option (List ℕ)). take 16 (drop (16 * i) (countedBy size o c .buffer))) e
+      ∙ ctr-at g (aes-length Encrypt size key) (c .counter) (c .buffer) i some′
+      ∙ ap (xorBytes (take 16 (drop (16 * i) (c .buffer)))) (sym made)

@@ -21,7 +21,7 @@ pub record Counted : Type 0 where
   pub cpu : List ℕ
   pub buffer : List ℕ
 
--- "handle with its size (48 or 64)": of the single form that is used, AESENC128KL or AESENC256KL
+-- "handle with its size (48 or 64)": the single form is AESENC128KL or AESENC256KL
 abbrev pub sizeOf : List ℕ → KeySize
 sizeOf handle = cond (eqb (length handle) (handleLength Aes128)) Aes128 Aes256
 

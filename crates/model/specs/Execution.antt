@@ -54,7 +54,7 @@ performStep m s =
     let e = processorAt m (s .processor) in
     done (withProcessor (s .processor) (withKey (executed s (e .key) .key) e) m) (executed s (e .key) .cpu) [] 0
 
--- a counter call changes nothing of it
+-- a counter call leaves the machine
 abbrev pub performCounter : Machine → CounterCall → Outcome
 performCounter m c = let x = counted c (processorAt m (c .processor) .key) in done m (x .cpu) (x .buffer) 0
 
