@@ -3,6 +3,7 @@ pub mod cipher;
 pub mod inv_cipher;
 pub mod mix;
 pub mod word;
+pub mod xor;
 
 pub struct Block {
     pub a: u32,

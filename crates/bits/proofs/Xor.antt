@@ -1,12 +1,13 @@
 -- The algebra of exclusive or, on numbers and on lists of bytes.
 -- Assumes nothing.
 use mathlib.Core.Path.{_≡_, refl, sym, ap, ap₂, _∙_}
-use mathlib.Core.List.{List, [], _∷_}
+use mathlib.Core.List.{List, [], _∷_, _++_}
 use Prim.Native.Nat.{ℕ, zero, suc, _+_, _*_, _/_, _%_, _≤_, _<_}
-use native.Mathlib.Nat.{mod-lt, zero-lt-suc, le-of-suc-le-suc, not-suc-le-zero}
+use native.Mathlib.Nat.{mod-lt, zero-lt-suc, le-of-suc-le-suc, not-suc-le-zero, suc-inj, suc-ne-zero}
+use native.Mathlib.Numerals.{add-one}
 use lib.Arith.{bin-ind}
 use lib.Bits.{bitXor, differ, xor-step, xor-shr, xor-mod, xor-self, xor-zero-r, xor-comm, xor-lt}
-use lib.ListN.{length}
+use lib.ListN.{length, getD, take, drop, set}
 use Rattle.bits.specs.Bytes.{Bytes, xorBytes}
 use Rattle.bits.proofs.Lists.{cons}
 
@@ -65,3 +66,36 @@ pub xor-bytes : (s k : List ℕ) → Bytes s → Bytes k → Bytes (xorBytes s k
 xor-bytes [] k g h = tt
 xor-bytes (x ∷ s) [] g h = tt
 xor-bytes (x ∷ s) (y ∷ k) g h = (xor-lt 8 x y (g .0) (h .0), xor-bytes s k (g .1) (h .1))
+
+-- two parts, of which the first is as long as its mask
+pub xor-append : (s t k l : List ℕ) → length s ≡ length k → xorBytes (s ++ t) (k ++ l) ≡ xorBytes s k ++ xorBytes t l
+xor-append [] t [] l e = refl
+xor-append [] t (b ∷ k) l e = absurd (suc-ne-zero (length k) (sym e))
+xor-append (a ∷ s) t [] l e = absurd (suc-ne-zero (length s) e)
+xor-append (a ∷ s) t (b ∷ k) l e = cons refl (xor-append s t k l (suc-inj e))
+
+-- ---- bytes XORed in place
+
+-- the first i bytes are XORed
+abbrev pub partly : ℕ → List ℕ → List ℕ → List ℕ
+partly i s t = xorBytes (take i s) t ++ drop i s
+
+one-more : (i : ℕ) (s t : List ℕ) → i < length s → length t ≡ length s
+    → set (partly i s t) i (bitXor (getD (partly i s t) i 0) (getD t i 0)) ≡ partly (suc i) s t
+one-more i [] t h e = absurd (not-suc-le-zero h)
+one-more zero (x ∷ s) [] h e = absurd (suc-ne-zero (length s) (sym e))
+one-more zero (x ∷ s) (y ∷ t) h e = refl
+one-more (suc i) (x ∷ s) [] h e = absurd (suc-ne-zero (length s) (sym e))
+one-more (suc i) (x ∷ s) (y ∷ t) h e = cons refl (one-more i s t (le-of-suc-le-suc h) (suc-inj e))
+
+pub xored-more : (i : ℕ) (s t now : List ℕ) → i < length s → length t ≡ length s → now ≡ partly i s t
+    → set now i (bitXor (getD now i 0) (getD t i 0)) ≡ partly (i + 1) s t
+xored-more i s t now h n e =
+    ap (λ (l : List ℕ). set l i (bitXor (getD l i 0) (getD t i 0))) e
+    ∙ one-more i s t h n
+    ∙ ap (λ (k : ℕ). partly k s t) (sym (add-one i))
+
+pub xored : (s t : List ℕ) → length t ≡ length s → partly (length s) s t ≡ xorBytes s t
+xored [] t e = refl
+xored (x ∷ s) [] e = absurd (suc-ne-zero (length s) (sym e))
+xored (x ∷ s) (y ∷ t) e = cons refl (xored s t (suc-inj e))

@@ -6,14 +6,13 @@ use mathlib.Core.List.{List, [], _∷_, _++_}
 use Prim.Native.Nat.{ℕ, _+_, _/_, _%_, _^_, _<_}
 use native.Mathlib.Nat.{suc-inj, suc-ne-zero}
 use native.Mathlib.Omega.{arith}
-use lib.Bits.{bitXor}
 use lib.Dec.{T, eqb}
 use lib.ListN.{length}
 use borrow.Author.Tests.{eq-eqb, eqb-true}
-use Rattle.bits.specs.Bytes.{xorBytes, alike}
+use Rattle.bits.specs.Bytes.{alike}
 use Rattle.bits.specs.Words.{leBytes}
 use Rattle.bits.proofs.Lists.{list4, four, alike-eq, alike-self}
-use Rattle.bits.proofs.Words.{le-xor, le-injective, value-of-le}
+use Rattle.bits.proofs.Words.{le-injective, value-of-le}
 use Rattle.handle.specs.Wrap.{clearTop, setTop, counterBlock}
 
 -- the bytes of four words
@@ -38,9 +37,6 @@ pub counter-block : (a b c d i : ℕ) → a < 2 ^ 32 → block ((a + i) % 2 ^ 32
 unfolding counterBlock setTop
 counter-block a b c d i h =
     four {q = leBytes 4 b} {r = leBytes 4 c} (counted (a + i) ∙ ap (λ (n : ℕ). leBytes 4 (n + i)) (sym (value-of-le 4 a h))) refl refl (top-word d)
-
-pub xor-words : (a b c d a′ b′ c′ d′ : ℕ) → block (bitXor a a′) (bitXor b b′) (bitXor c c′) (bitXor d d′) ≡ xorBytes (block a b c d) (block a′ b′ c′ d′)
-xor-words a b c d a′ b′ c′ d′ = four (le-xor 4 a a′) (le-xor 4 b b′) (le-xor 4 c c′) (le-xor 4 d d′)
 
 -- ---- comparison
 

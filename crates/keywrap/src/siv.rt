@@ -18,6 +18,7 @@ use crate::Unwrapped;
 use crate::hash::hashed;
 use aes::Block;
 use aes::Key;
+use aes::xor::xor_block;
 use aes_blocks::encrypt_block_with;
 use aes_blocks::tables::mix_table;
 use aes_key::expand_with;
@@ -44,17 +45,6 @@ fn counter_block(tag: Block, i: u32) -> Block
         b: tag.b,
         c: tag.c,
         d: tag.d % 0x8000_0000 + 0x8000_0000,
-    }
-}
-
-fn xor_block(a: Block, b: Block) -> Block
-    ensures { λ r. ⌜ bytesOf r ≡ xorBytes (bytesOf a) (bytesOf b) ⌝ }
-{
-    Block {
-        a: a.a ^ b.a,
-        b: a.b ^ b.b,
-        c: a.c ^ b.c,
-        d: a.d ^ b.d,
     }
 }
 

@@ -1,13 +1,13 @@
 // LOADIWKEY (Intel 343965-001US 3.12), over one IWKey and the CPU record.
 ghost use mathlib.Core.Path.{_≡_};
 ghost use lib.ListN.{length};
-ghost use Rattle.bits.specs.Bytes.{xorBytes};
 ghost use Rattle.model.specs.Cpu.{cpuSize};
 ghost use Rattle.model.specs.Forms.{keySource, noBackup};
 ghost use Rattle.model.specs.Instructions as instructions;
 ghost use Rattle.loadiwkey.specs.Meaning.{randomData, executed};
 use aes::word::put_block;
 use aes::word::to_bytes;
+use aes::xor::xor_in;
 use cpu::put_zf;
 use cpu::register;
 use cpu::register_of;
@@ -53,16 +53,6 @@ fn plain_key(l: LoadIwKey, cpu: &[u8]) -> IwKey
         encryption,
         source: key_source(cpu),
         no_backup: no_backup(cpu),
-    }
-}
-
-// Each byte XORed with the one at its place in `other`.
-fn xor_in(s: &mut [u8], other: &[u8])
-    requires { ⌜ length (now other) ≡ length (now s) ⌝ }
-    ensures { λ _. ⌜ now (s .exit) ≡ xorBytes (now (s .entry)) (now (other .entry)) ⌝ }
-{
-    for i in 0..s.len() {
-        s[i] = s[i] ^ other[i];
     }
 }
 

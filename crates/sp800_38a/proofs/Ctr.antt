@@ -6,35 +6,12 @@ use mathlib.Core.Logic.{⊎-elim}
 use Prim.Native.Nat.{ℕ, zero, suc, _+_, _*_, _-_, _/_, _%_, _≤_, _<_}
 use native.Mathlib.Nat.{zero-add, suc-add, add-assoc, eq-zero-or-pos}
 use native.Mathlib.Omega.{arith}
-use lib.Bits.{bitXor}
 use lib.ListN.{length, take, drop, length-append, length-drop, take-append-drop}
 use lib.Seq.{take-all, length-take-le, take-append-le, drop-append-le, take-at, drop-at}
 use Rattle.bits.specs.Bytes.{Bytes, xorBytes}
-use Rattle.bits.proofs.Xor.{xor-bytes-undo, xor-length}
+use Rattle.bits.proofs.Xor.{xor-bytes-undo, xor-length, xor-append}
 use Rattle.sp800_38a.specs.Counter.{counterAt, counters, outputBlocks, ctr}
 use Rattle.sp800_38a.proofs.Counters.{counter-bytes, counter-sum, counter-none}
-
--- exclusive or of two parts, of which the first two are alike in length
-pub xor-append : (s t k l : List ℕ) → length s ≡ length k → xorBytes (s ++ t) (k ++ l) ≡ xorBytes s k ++ xorBytes t l
-xor-append [] t [] l e = refl
-xor-append [] t (b ∷ k) l e = absurd (zero-not-suc (length k) e)
-  where
-    zero-not-suc : (n : ℕ) → 0 ≡ suc n → ⊥
-    zero-not-suc n h = omega arith
-xor-append (a ∷ s) t [] l e = absurd (suc-not-zero (length s) e)
-  where
-    suc-not-zero : (n : ℕ) → suc n ≡ 0 → ⊥
-    suc-not-zero n h = omega arith
-xor-append (a ∷ s) t (b ∷ k) l e = ap (λ (w : List ℕ). bitXor a b ∷ w) (xor-append s t k l (omega arith))
-
--- no more of the second counts than the first is long
-pub xor-front : (s k l : List ℕ) → length s ≤ length k → xorBytes s (k ++ l) ≡ xorBytes s k
-xor-front [] k l h = refl
-xor-front (a ∷ s) [] l h = absurd (none-above (length s) h)
-  where
-    none-above : (n : ℕ) → suc n ≤ 0 → ⊥
-    none-above n h = omega arith
-xor-front (a ∷ s) (b ∷ k) l h = ap (λ (w : List ℕ). bitXor a b ∷ w) (xor-front s k l (omega arith))
 
 module _ (f : List ℕ → List ℕ) (whole : (b : List ℕ) → length (f b) ≡ 16) where
   pub output-length : (c : List ℕ) (i n : ℕ) → length (outputBlocks f c i n) ≡ 16 * n

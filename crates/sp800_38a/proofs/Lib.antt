@@ -1,4 +1,4 @@
+pub mod Cases
 pub mod Counters
 pub mod Ctr
 pub mod Groups
-pub mod Examples

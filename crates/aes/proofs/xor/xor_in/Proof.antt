@@ -6,9 +6,9 @@ use native.Mathlib.Omega.{arith}
 use borrow.Author.Needs.{needs}
 use lib.Bits.{bitXor}
 use lib.ListN.{length, getD, length-set}
-use Rattle.loadiwkey.proofs.Loading.{partly, xored-more, xored}
-use Rattle.loadiwkey.proofs.xor_in.Statement.{statement}
-use Rattle.loadiwkey.proofs.xor_in.Tie as tie
+use Rattle.bits.proofs.Xor.{partly, xored-more, xored}
+use Rattle.aes.proofs.xor.xor_in.Statement.{statement}
+use Rattle.aes.proofs.xor.xor_in.Tie as tie
 
 abbrev Inv-loop : tie.InvT-loop
 Inv-loop s₀ other i₀ i-end s i = (i ≤ length s₀) × (length s ≡ length s₀) × (s ≡ partly i s₀ other)
