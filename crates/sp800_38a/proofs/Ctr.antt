@@ -13,15 +13,15 @@ use Rattle.bits.proofs.Xor.{xor-bytes-undo, xor-length, xor-append}
 use Rattle.sp800_38a.specs.Counter.{counterAt, counters, outputBlocks, ctr}
 use Rattle.sp800_38a.proofs.Counters.{counter-bytes, counter-sum, counter-none}
 
-module _ (f : List ℕ → List ℕ) (whole : (b : List ℕ) → length (f b) ≡ 16) where
-  pub output-length : (c : List ℕ) (i n : ℕ) → length (outputBlocks f c i n) ≡ 16 * n
+module _ (f : List ℕ → List ℕ) where
+  pub output-length : (c : List ℕ) → ((i : ℕ) → length (f (counterAt c i)) ≡ 16) → (i n : ℕ) → length (outputBlocks f c i n) ≡ 16 * n
   unfolding outputBlocks flatMap
-  output-length c i zero = refl
-  output-length c i (suc n) =
-      length-append (f (counterAt c i)) (outputBlocks f c (i + 1) n) ∙ omega (arith, whole (counterAt c i), output-length c (i + 1) n)
+  output-length c whole i zero = refl
+  output-length c whole i (suc n) =
+      length-append (f (counterAt c i)) (outputBlocks f c (i + 1) n) ∙ omega (arith, whole i, output-length c whole (i + 1) n)
 
   -- n blocks, and then m
-  output-append : (c : List ℕ) (i n m : ℕ) → outputBlocks f c i (n + m) ≡ outputBlocks f c i n ++ outputBlocks f c (i + n) m
+  pub output-append : (c : List ℕ) (i n m : ℕ) → outputBlocks f c i (n + m) ≡ outputBlocks f c i n ++ outputBlocks f c (i + n) m
   unfolding outputBlocks flatMap
   output-append c i zero m =
       let e : i ≡ i + 0 = omega arith in
@@ -40,13 +40,25 @@ module _ (f : List ℕ → List ℕ) (whole : (b : List ℕ) → length (f b) �
       ap₂ (λ (b w : List ℕ). f b ++ w) (counter-sum c i j)
       (output-from c i (j + 1) n ∙ ap (λ (k : ℕ). outputBlocks f c k n) (sym (add-assoc i j 1)))
 
+-- ciphers that agree on blocks of bytes
+module _ (f g : List ℕ → List ℕ) (same : (b : List ℕ) → Bytes b → f b ≡ g b) (c : List ℕ) where
+  output-ext : (i n : ℕ) → outputBlocks f c i n ≡ outputBlocks g c i n
+  unfolding outputBlocks flatMap
+  output-ext i zero = refl
+  output-ext i (suc n) = ap₂ (λ (b w : List ℕ). b ++ w) (same (counterAt c i) (counter-bytes c i)) (output-ext (i + 1) n)
+
+  pub ctr-ext : (s : List ℕ) → ctr f c s ≡ ctr g c s
+  unfolding ctr
+  ctr-ext s = ap (xorBytes s) (output-ext 0 ((length s + 15) / 16))
+
+module _ (f : List ℕ → List ℕ) (whole : (b : List ℕ) → length (f b) ≡ 16) where
   module _ (c : List ℕ) where
     -- the output blocks for so many bytes
     abbrev stream : ℕ → List ℕ
     stream n = outputBlocks f c 0 ((n + 15) / 16)
 
     covered : (s : List ℕ) → length s ≤ length (stream (length s))
-    covered s = omega (arith, output-length c 0 ((length s + 15) / 16))
+    covered s = omega (arith, output-length f c (λ i. whole (counterAt c i)) 0 ((length s + 15) / 16))
 
     pub ctr-length : (s : List ℕ) → length (ctr f c s) ≡ length s
     unfolding ctr
@@ -68,10 +80,10 @@ module _ (f : List ℕ → List ℕ) (whole : (b : List ℕ) → length (f b) �
         let first : (length s + 15) / 16 ≡ n = omega arith in
         let from : n ≡ n + 0 = omega arith in
         ap (λ (k : ℕ). xorBytes (s ++ t) (outputBlocks f c 0 k)) all
-        ∙ ap (xorBytes (s ++ t)) (output-append c 0 n m)
-        ∙ xor-append s t (outputBlocks f c 0 n) (outputBlocks f c (0 + n) m) (e ∙ sym (output-length c 0 n))
+        ∙ ap (xorBytes (s ++ t)) (output-append f c 0 n m)
+        ∙ xor-append s t (outputBlocks f c 0 n) (outputBlocks f c (0 + n) m) (e ∙ sym (output-length f c (λ i. whole (counterAt c i)) 0 n))
         ∙ ap₂ (λ (k : ℕ) (w : List ℕ). xorBytes s (outputBlocks f c 0 k) ++ xorBytes t w) (sym first)
-        (ap (λ (k : ℕ). outputBlocks f c k m) (zero-add n ∙ from) ∙ sym (output-from c n 0 m))
+        (ap (λ (k : ℕ). outputBlocks f c k m) (zero-add n ∙ from) ∙ sym (output-from f c n 0 m))
 
     -- a block, or less
     pub ctr-block : Bytes c → (b : List ℕ) → length b ≤ 16 → ctr f c b ≡ xorBytes b (f c)

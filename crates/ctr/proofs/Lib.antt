@@ -1,0 +1,3 @@
+pub mod Counting
+pub mod Masking
+pub mod Groups
