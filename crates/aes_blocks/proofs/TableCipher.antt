@@ -106,7 +106,7 @@ module _ (t : List ℕ) (rule : MixedTable t) where
 
 -- the same under a schedule of words, of a block and of the blocks of a slice
 module _ (t f : List ℕ) (rule : MixedTable t) (box : SboxTable f) (size : KeySize) (w : List ℕ) where
-  schedule-by : (b : List ℕ) → Bytes b → tableCipher t f (schedule size w) (nr size) b ≡ cipher (schedule size w) (nr size) b
+  pub schedule-by : (b : List ℕ) → Bytes b → tableCipher t f (schedule size w) (nr size) b ≡ cipher (schedule size w) (nr size) b
   schedule-by b h = cipher-by t rule (schedule size w) (words-bytes 4 (take (4 * (nk size + 7)) w)) f box (nr size) b h
 
   pub block-by : (b : Block) → tableCipher t f (schedule size w) (nr size) (bytesOf b) ≡ cipher (schedule size w) (nr size) (bytesOf b)

@@ -52,7 +52,7 @@ fn type_of(size: KeySize) -> u32
 }
 
 // Of the AAD's 128 bits all that may be set stand in its first word.
-fn illegal(cpl: u8, size: KeySize, direction: Direction, aad: Block) -> bool
+pub fn illegal(cpl: u8, size: KeySize, direction: Direction, aad: Block) -> bool
     ensures { λ r. ⌜ r ≡ instructions.illegal cpl size direction (bytesOf aad) ⌝ }
 {
     let w = aad.a;
@@ -65,7 +65,7 @@ fn illegal(cpl: u8, size: KeySize, direction: Direction, aad: Block) -> bool
 }
 
 // What the IWKey unwraps, by lent tables.
-fn unwrapped_by(
+pub fn unwrapped_by(
     mixed: &[u32; 256],
     sbox: &[u8; 256],
     k: IwKey,

@@ -31,8 +31,8 @@ use loadiwkey::load;
 use model::IwKey;
 use std::num::wrapping_add_u64;
 
-// The handle at an address of memory; for 128 bits the high half of the ciphertext is not read.
-fn handle_at(memory: &[u8], at: usize, size: KeySize) -> Handle
+// The handle at a place of bytes, as of memory; for 128 bits the high half of the ciphertext is not read.
+pub fn handle_at(memory: &[u8], at: usize, size: KeySize) -> Handle
     requires { ⌜ at + handleLength size ≤ length (now memory) ⌝ }
     ensures { λ r. ⌜ handleBytes size r ≡ part (handleLength size) at (now (memory .entry)) ⌝ }
 {

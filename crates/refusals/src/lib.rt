@@ -75,7 +75,7 @@ fn needs_wide(what: Instruction) -> bool
 }
 
 // 10, #UD.
-fn invalid_opcode(features: u8, control: u8, lock: bool, firmware: bool, wide: bool) -> bool
+pub fn invalid_opcode(features: u8, control: u8, lock: bool, firmware: bool, wide: bool) -> bool
     ensures { λ r. ⌜ r ≡ invalidOpcode features control lock firmware wide ⌝ }
 {
     lock
@@ -88,7 +88,7 @@ fn invalid_opcode(features: u8, control: u8, lock: bool, firmware: bool, wide: b
 }
 
 // 11, #NM.
-fn no_math(control: u8) -> bool
+pub fn no_math(control: u8) -> bool
     ensures { λ r. ⌜ r ≡ noMath control ⌝ }
 {
     bit(CR0_TS, control)

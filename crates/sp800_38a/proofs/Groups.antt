@@ -45,4 +45,4 @@ module _ (f : List ℕ → List ℕ) (c : List ℕ) where
         ∙ ap (take (16 * n)) (ctr-append f whole at n (take (16 * n) t) (drop (16 * n) t) front)
         ∙ take-at (ctr f at (take (16 * n) t)) (ctr f (counterAt at n) (drop (16 * n) t)) (16 * n) (ctr-length f whole at (take (16 * n) t) ∙ front)
         ∙ ap (λ (k : ℕ). xorBytes (take (16 * n) t) (outputBlocks f at 0 k)) count
-        ∙ ap (xorBytes (take (16 * n) t)) (output-from f whole c i 0 n ∙ ap (λ (k : ℕ). outputBlocks f c k n) from)
+        ∙ ap (xorBytes (take (16 * n) t)) (output-from f c i 0 n ∙ ap (λ (k : ℕ). outputBlocks f c k n) from)
