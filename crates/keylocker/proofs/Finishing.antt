@@ -11,7 +11,7 @@ use lib.ListN.{length}
 use lib.Seq.{sets, getD-set-same}
 use borrow.Author.Tests.{eqb-true, eqb-false, eq-eqb, ne-eqb}
 use Rattle.bits.proofs.Choice.{cond-on, cond-off, on-cond}
-use Rattle.model.specs.Calls.{PowerOn, StepCall, ReadCall, Call, step, counter, read, write, settle, sleep, reset, taken, onCpu}
+use Rattle.model.specs.Calls.{PowerOn, StepCall, CounterCall, ReadCall, Call, step, counter, read, write, settle, sleep, reset, taken, onCpu}
 use Rattle.model.specs.Calls as calls
 use Rattle.model.specs.Execution.{powerOnRefusal, refused, perform, numberOf, call, powerOn}
 use Rattle.model.specs.Layout.{entrySize, machineSize, entryBytes, machineBytes, machineAt}
@@ -20,6 +20,7 @@ use Rattle.model.specs.declared.Machine.{Machine}
 use Rattle.model.specs.declared.Processor.{Processor}
 use Rattle.model.proofs.Bytes.{machine-shaped}
 use Rattle.model.proofs.Frames.{by-number, read-kept}
+use Rattle.model.proofs.Counter.{counter-lent}
 use Rattle.model.proofs.Lent.{kept-lent}
 use Rattle.model.proofs.InPlace.{processor-few, step-entry}
 use Rattle.model.specs.Records.{noProcessor, processorAt, withProcessor}
@@ -28,13 +29,14 @@ use Rattle.cpuid_model.specs.Calls.{CpuidCall, identify, identifyLent}
 use Rattle.cpuid_model.specs.declared.Leaf.{Leaf}
 use Rattle.cpuid_model.proofs.Calls.{lent-block}
 use Rattle.step.specs.Meaning.{numberOf as numberIn, answerOf, Left, left, leftOf}
+use Rattle.counter.specs.Meaning as counting
 use Rattle.machine.specs.Meaning.{outcomeOf, identifiedOf}
 use Rattle.step.specs.declared.Answer.{Answer}
 use Rattle.step.specs.declared.Answer.the-variants.{Done, Refused}
 use Rattle.machine.specs.declared.Outcome.{Outcome}
 use Rattle.machine.specs.declared.Identified as machineCall
 use Rattle.keylocker.specs.Meaning.{called, calledOf, answered, finished, valueLeft, readAnswered, identified}
-use Rattle.keylocker.specs.Promises.{answer, gave, PowerOnPromise, StepPromise, ReadPromise}
+use Rattle.keylocker.specs.Promises.{answer, gave, PowerOnPromise, StepPromise, CounterPromise, ReadPromise}
 
 -- ---- what an answer can hold: a CPU record if the call is a step or a counter call, a buffer if it is a counter call, a value if it is a read
 
@@ -258,6 +260,28 @@ module _ (block : List ℕ) (s : StepCall) where
       let written : Processor → ℕ → List ℕ = λ x k. sets block (2 + k * entrySize) (entryBytes x) in
       (λ j. called 0 ((q ∙ ap₂ written (entry ∙ ap (processorAt (o .machine)) p) p ∙ step-entry block h s accepted ∙ ap machineBytes (sym same)) j))
       ∙ ap (answered block (withProcessor i e m)) (sym f)
+
+-- ---- a counter call
+
+module _ (block : List ℕ) (c : CounterCall) where
+  pub counter-short : (length block ≡ machineSize → ⊥) → CounterPromise block c block (c .cpu) (c .buffer) 1
+  unfolding callLent
+  counter-short h =
+      let lent : callLent block (counter c) ≡ wrongSize block (c .cpu) (c .buffer) = cond-off (ne-eqb (length block) machineSize h) _ _ in
+      promised block block 1 (c .cpu) (c .buffer) _ (counter c) (short-called block (counter c) h) (λ j. sym lent j .answer .cpu) (λ j. sym lent j .answer .buffer) refl
+
+  -- the block is not written, and need not be
+  pub counter-called : (cpu buffer : List ℕ) (m : Machine) (a : Answer) → length block ≡ machineSize → m ≡ machineAt block
+      → counting.left a m cpu buffer ≡ counting.leftOf (call m (counter c)) → CounterPromise block c block cpu buffer (numberIn a)
+  unfolding callLent
+  counter-called cpu buffer m a h w d =
+      let o = call (machineAt block) (counter c) in
+      let e = d ∙ ap (λ (x : Machine). counting.leftOf (call x (counter c))) w in
+      let lent : callLent block (counter c) ≡ into block o = cond-on (eq-eqb (length block) machineSize h) _ _ in
+      let number : numberIn a ≡ callLent block (counter c) .answer .number =
+      ap (λ (x : counting.Left). numberIn (x .answer)) e ∙ number-in (o .answer .number) ∙ (λ j. sym lent j .answer .number) in
+      promised block block (numberIn a) cpu buffer _ (counter c) (λ j. called (number j) (sym (counter-lent block c) j))
+      ((λ j. e j .cpu) ∙ (λ j. sym lent j .answer .cpu)) ((λ j. e j .buffer) ∙ (λ j. sym lent j .answer .buffer)) refl
 
 -- ---- CPUID
 

@@ -3,7 +3,7 @@ ghost use mathlib.Core.Path.{_≡_};
 ghost use lib.ListN.{length};
 ghost use Rattle.model.specs.Layout.{machineSize};
 ghost use Rattle.keylocker.specs.Meaning.{called, finished};
-ghost use Rattle.keylocker.specs.Promises.{PowerOnPromise, StepPromise, ReadPromise, WritePromise, SettlePromise, SleepPromise, ResetPromise, TakenPromise, CpuidPromise, KeyringLookupPromise, KeyringAddPromise};
+ghost use Rattle.keylocker.specs.Promises.{PowerOnPromise, StepPromise, CounterPromise, ReadPromise, WritePromise, SettlePromise, SleepPromise, ResetPromise, TakenPromise, CpuidPromise, KeyringLookupPromise, KeyringAddPromise};
 use layout::read_machine;
 use layout_write::write_entry;
 use layout_write::write_machine;
@@ -152,6 +152,30 @@ pub extern "C" fn keylocker_step(
             write_entry(machine, processor, e);
             0
         }
+    }
+}
+
+// ---- counter mode
+
+// The machine is lent as to a step and not written.
+#[no_mangle]
+pub extern "C" fn keylocker_ctr(
+    machine: &mut [u8],
+    processor: u8,
+    cpu: &mut [u8],
+    handle: &[u8],
+    counter: &[u8],
+    buffer: &mut [u8],
+) -> u32
+    ensures { λ r. ⌜ CounterPromise (now (machine .entry)) (record { processor = processor; cpu = now (cpu .entry); handle = now (handle .entry); counter = now (counter .entry); buffer = now (buffer .entry) }) (now (machine .exit)) (now (cpu .exit)) (now (buffer .exit)) r ⌝ }
+{
+    if machine.len() != MACHINE_SIZE {
+        return 1;
+    }
+    let m = read_machine(machine);
+    match counter::count(m, processor, cpu, handle, counter, buffer) {
+        Answer::Refused(uncounted) => uncounted as u32,
+        Answer::Done => 0,
     }
 }
 
