@@ -10,7 +10,7 @@
  *     answer = keylocker_step(machine, sizeof machine, 0, cpu, sizeof cpu, memory, memory_len, NULL, 0, string, string_len);
  *
  * Every call answers KEYLOCKER_DONE (0), or the number of the refusal that stopped it. A refused call writes nothing: the machine block, the CPU record,
- * the keyring and what it would have answered with are as they were.
+ * the keyring, the buffer of a counter call and what it would have answered with are as they were.
  *
  * A keyring, a block of its own, keeps handles by label. Its two calls take no machine.
  *
@@ -18,13 +18,14 @@
  * assumed, and byte buffers need no alignment. What the caller owes is valid C, and stack:
  *   - behind each pointer at least as many bytes as the length says, and a number behind value, eax, ebx, ecx and edx; a null pointer only with length 0;
  *     where a lookup is to put what it finds, a byte behind kind and KEYLOCKER_HANDLE_256_SIZE bytes behind handle;
- *   - no two buffers of a call overlap, places for results included (a string that lies in guest memory is copied first);
+ *   - no two buffers of a call overlap, places for results included (a string that lies in guest memory is copied first, and so is a handle or a counter
+ *     block that lies in the buffer of keylocker_ctr);
  *   - no other thread uses a buffer while a call may write it;
  *   - below the caller's own frame KEYLOCKER_STACK_SIZE bytes of stack: no call goes deeper. Signal handlers on the same stack need theirs besides, and
  *     so does a dynamic linker that binds memcpy, memmove and memset at their first call, some 3 KiB; linked with -z now it binds them before.
  * The library keeps nothing between calls and allocates nothing, so different machines and keyrings may be used by different threads at the same time.
  *
- * All integers in buffers are little-endian.
+ * All integers in buffers are little-endian but a counter block, the counter of keylocker_ctr, which is big-endian.
  */
 #ifndef KEYLOCKER_H
 #define KEYLOCKER_H
@@ -32,7 +33,7 @@
 #include <stddef.h>
 #include <stdint.h>
 
-#define KEYLOCKER_VERSION "1.5.0"
+#define KEYLOCKER_VERSION "1.6.0"
 
 /* bytes of stack that a call needs at most; the keyring's two need about 1 KiB of it */
 #define KEYLOCKER_STACK_SIZE 7168
@@ -78,7 +79,7 @@ extern "C" {
 
 /* features */
 #define KEYLOCKER_FEATURE_KL 0x01        /* Key Locker */
-#define KEYLOCKER_FEATURE_FIRMWARE 0x02  /* enabled by firmware: encodes and uses need it */
+#define KEYLOCKER_FEATURE_FIRMWARE 0x02  /* enabled by firmware: encodes, uses and keylocker_ctr need it */
 #define KEYLOCKER_FEATURE_WIDE 0x04      /* the wide forms */
 #define KEYLOCKER_FEATURE_BACKUP 0x08    /* the backup registers */
 #define KEYLOCKER_FEATURE_NO_BACKUP 0x10 /* LOADIWKEY may set NoBackup */
@@ -88,7 +89,8 @@ extern "C" {
 /* ---- the CPU record ----
  *
  * XMM0 to XMM15, 16 bytes each, byte 0 of a register first; RAX, RCX, RDX, RBX, RSP, RBP, RSI, RDI, R8 to R15, 8 bytes each; RIP; RFLAGS;
- * CPL (0 to 3); control bits; zeros. It is the host's: no call but keylocker_step and keylocker_cpuid looks at it, and sleep and reset leave it. */
+ * CPL (0 to 3); control bits; zeros. It is the host's: no call but keylocker_step, keylocker_ctr and keylocker_cpuid looks at it, the first two alone
+ * write it, and sleep and reset leave it. */
 #define KEYLOCKER_CPU_XMM 0                                   /* XMM0; XMM n is 16 n further on */
 #define KEYLOCKER_CPU_REGISTERS (KEYLOCKER_CPU_XMM + 16 * 16) /* RAX; register n, by the numbers below, is 8 n further on */
 #define KEYLOCKER_CPU_RIP (KEYLOCKER_CPU_REGISTERS + 16 * 8)
@@ -109,12 +111,12 @@ extern "C" {
 #define KEYLOCKER_RDI 7
 
 /* control bits; bits 4 to 7 are zero */
-#define KEYLOCKER_CONTROL_CR4_KL 0x01     /* needed by every instruction */
-#define KEYLOCKER_CONTROL_CR4_OSFXSR 0x02 /* needed by every instruction */
+#define KEYLOCKER_CONTROL_CR4_KL 0x01     /* needed by every instruction and by keylocker_ctr */
+#define KEYLOCKER_CONTROL_CR4_OSFXSR 0x02 /* needed by every instruction and by keylocker_ctr */
 #define KEYLOCKER_CONTROL_CR0_EM 0x04     /* #UD */
 #define KEYLOCKER_CONTROL_CR0_TS 0x08     /* #NM */
 
-/* the six flags that the instructions write in RFLAGS; all but ZF become 0 */
+/* the six flags that the instructions and keylocker_ctr write in RFLAGS; all but ZF become 0 */
 #define KEYLOCKER_RFLAGS_CF 0x001
 #define KEYLOCKER_RFLAGS_PF 0x004
 #define KEYLOCKER_RFLAGS_AF 0x010
@@ -122,13 +124,15 @@ extern "C" {
 #define KEYLOCKER_RFLAGS_SF 0x080
 #define KEYLOCKER_RFLAGS_OF 0x800
 
-/* ---- handles, memory and random data ----
+/* ---- handles, memory, random data and counter mode ----
  *
  * A handle is 16 bytes of AAD (restrictions and key type), a tag of 16 bytes, and the encrypted key. */
 #define KEYLOCKER_HANDLE_128_SIZE 48
 #define KEYLOCKER_HANDLE_256_SIZE 64
 #define KEYLOCKER_MEMORY_LIMIT 1048576
 #define KEYLOCKER_RANDOM_SIZE 48 /* XORed into the encryption key's low half, its high half, and the integrity key, in this order */
+#define KEYLOCKER_COUNTER_SIZE 16
+#define KEYLOCKER_BUFFER_LIMIT 65536
 
 /* restrictions, in ENCODEKEY's source register and in the handle's first byte */
 #define KEYLOCKER_RESTRICT_CPL0_ONLY 0x1
@@ -168,19 +172,24 @@ extern "C" {
 #define KEYLOCKER_KIND_128 0 /* KEYLOCKER_HANDLE_128_SIZE bytes */
 #define KEYLOCKER_KIND_256 1 /* KEYLOCKER_HANDLE_256_SIZE bytes */
 
-/* ---- answers: the first that applies, in this order ---- */
+/* ---- answers ----
+ *
+ * The first of these that applies, from top to bottom. That is the order of checking and not that of the numbers: KEYLOCKER_BAD_SIZE, 18, comes directly
+ * behind 5. A call skips what it has no operand for. */
 #define KEYLOCKER_DONE 0
 #define KEYLOCKER_BAD_MACHINE 1   /* the block's length or contents; at power-on its length, the count (1 to 16) or the features */
 #define KEYLOCKER_BAD_CODE 2      /* settle or wake code unknown */
 #define KEYLOCKER_BAD_PROCESSOR 3 /* processor number not below the count */
 #define KEYLOCKER_BAD_CPU_SIZE 4  /* the CPU record's length */
 #define KEYLOCKER_BAD_CPU 5       /* CPL above 3, or a zero field of the CPU record not zero */
+#define KEYLOCKER_BAD_SIZE 18     /* keylocker_ctr: more bytes in the buffer than KEYLOCKER_BUFFER_LIMIT, a handle of neither KEYLOCKER_HANDLE_128_SIZE nor
+                                   * KEYLOCKER_HANDLE_256_SIZE bytes, or a counter block not of KEYLOCKER_COUNTER_SIZE bytes */
 #define KEYLOCKER_BAD_MEMORY 6    /* more memory than KEYLOCKER_MEMORY_LIMIT */
 #define KEYLOCKER_BAD_RANDOM 7    /* random data neither 0 nor KEYLOCKER_RANDOM_SIZE bytes */
 #define KEYLOCKER_BAD_BYTE 8      /* a byte of the string that no instruction has there */
 #define KEYLOCKER_STRING_ENDS 9   /* the string ends inside an instruction; an empty one does not */
 #define KEYLOCKER_UD 10           /* #UD: LOCK; KL feature or CR4.KL off; CR0.EM on; CR4.OSFXSR off; firmware feature off (not for LOADIWKEY);
-                                   * wide feature off (for wide forms) */
+                                   * wide feature off (for wide forms, and not for keylocker_ctr) */
 #define KEYLOCKER_NM 11           /* #NM: CR0.TS on */
 #define KEYLOCKER_GP 12           /* #GP(0): ENCODEKEY with source bits 31:3; LOADIWKEY at CPL above 0, with EAX bits 31:5, a key source above 1, or
                                    * NoBackup or key source 1 that the features lack; a handle byte at an address that is not canonical; a backup
@@ -189,7 +198,7 @@ extern "C" {
 #define KEYLOCKER_SS 13           /* #SS(0): a handle byte at an address that is not canonical, with RSP or RBP as the base */
 #define KEYLOCKER_PF 14           /* #PF: a handle byte outside memory */
 
-/* refusals of the keyring's calls, which meet none of those before and are the only ones to meet these */
+/* refusals of the keyring's calls, which meet none of those above and are the only ones to meet these */
 #define KEYLOCKER_BAD_KEYRING 15  /* the block's length; a head or any record's next index not below the number of records; a record that the heads reach
                                    * twice; a byte behind the heads in record 0, or the zero byte of any other, not zero; a kind above 1 in any other;
                                    * the length of label or handle */
@@ -219,6 +228,23 @@ uint32_t keylocker_power_on(uint8_t *machine, size_t machine_len, uint8_t count,
  * a CPL from 0 to 3 do not count. */
 uint32_t keylocker_step(uint8_t *machine, size_t machine_len, uint8_t processor, uint8_t *cpu, size_t cpu_len, const uint8_t *memory, size_t memory_len,
                         const uint8_t *random, size_t random_len, const uint8_t *string, size_t string_len);
+
+/* Counter mode (NIST SP 800-38A, 6.5) over a buffer, under the key of a handle. The handle, of KEYLOCKER_HANDLE_128_SIZE or KEYLOCKER_HANDLE_256_SIZE bytes,
+ * is opened as AESENC128KL or AESENC256KL opens one, under the processor's IWKey and at the record's CPL; the buffer is then XORed with encrypted counters.
+ * Its first 16 bytes take the encryption of the counter block as given, the next that of the counter block plus 1, and so on; all 16 bytes of the
+ * counter count, the last one lowest, modulo 2^128. A last block of fewer bytes takes the first bytes of its encrypted counter.
+ *
+ * The same call again, with the same counter block, gives the buffer back: sealing and opening are one. A handle that may not encrypt does not open here,
+ * and one that may not decrypt does. To go on where a call ended, with more than KEYLOCKER_BUFFER_LIMIT bytes for one, cut at a multiple of 16 bytes and
+ * add (buffer_len + 15) / 16 to the counter block, which is not written; no next counter is given. No counter value may ever serve two blocks under one key:
+ * whoever has both then has the XOR of what was sealed. Nothing is authenticated: a bit flipped in the buffer is flipped in what comes back.
+ *
+ * Answer 0 does not say that the handle opened: ZF is 0 if so. Where it is 1, the buffer is as it was. Of the CPU record only the six flags are written: as
+ * by a use, but RIP stays, for there is no string, and so do the XMM registers. An empty buffer, for which a null pointer will do, has all checks and its
+ * handle opened. With the wide feature or without it the result is the same; it only changes how fast it comes. The machine is not changed.
+ * Answers 0, KEYLOCKER_BAD_MACHINE, KEYLOCKER_BAD_PROCESSOR, KEYLOCKER_BAD_CPU_SIZE, KEYLOCKER_BAD_CPU, KEYLOCKER_BAD_SIZE, KEYLOCKER_UD or KEYLOCKER_NM. */
+uint32_t keylocker_ctr(uint8_t *machine, size_t machine_len, uint8_t processor, uint8_t *cpu, size_t cpu_len, const uint8_t *handle, size_t handle_len,
+                       const uint8_t *counter, size_t counter_len, uint8_t *buffer, size_t buffer_len);
 
 /* CPUID on a processor with this CPU record, at any CPL, from the machine's features and CR4.KL: leaf 7 with subleaf 0, and leaf 0x19 whatever the subleaf;
  * zeros for every other leaf or subleaf, and for leaf 0x19 without the KL feature. All bits without a name here are 0. The four numbers are written where the
