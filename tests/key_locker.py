@@ -4,15 +4,15 @@
   key_locker.py  exit with 1 at the first line of the vector files that comes out differently
   key_locker.py INTEGRITY ENCRYPTION AAD HIGH TAG  print the 32-byte key that ends in HIGH and whose handle has TAG
 
-It is written from FIPS 197, RFC 8452 and the scope (see docs/DECISIONS.md) and from nothing under crates/, for reading
-and not for speed.
+It is written from FIPS 197, RFC 8452, NIST SP 800-38A and the scope (see docs/DECISIONS.md) and from nothing under crates/, for
+reading and not for speed.
 """
 
 import sys
 from pathlib import Path
 
 ROOT = Path(__file__).resolve().parent.parent
-VECTORS = ["tests/vectors/fips197.txt", "tests/vectors/rfc8452.txt", "tests/vectors/handles.txt"]
+VECTORS = ["tests/vectors/fips197.txt", "tests/vectors/rfc8452.txt", "tests/vectors/handles.txt", "tests/vectors/sp800-38a-ctr.txt"]
 
 
 def xor(a, b):
@@ -92,6 +92,19 @@ def inv_cipher(key, block):
         state = xor(shift_rows(state, -1).translate(INV_SBOX), round_key)
         state = mix_columns(state, (0x0E, 0x0B, 0x0D, 0x09))
     return xor(shift_rows(state, -1).translate(INV_SBOX), first)
+
+
+# SP 800-38A, section 6.5, with the standard incrementing function of appendix B.1 over all 128 bits.
+
+
+def ctr(key, counter, text):
+    """A plaintext becomes its ciphertext, and a ciphertext its plaintext."""
+    first, result = int.from_bytes(counter, "big"), b""
+    for i in range(0, len(text), 16):
+        block = text[i : i + 16]
+        keystream = cipher(key, ((first + i // 16) % 2**128).to_bytes(16, "big"))
+        result += xor(block, keystream[: len(block)])
+    return result
 
 
 # RFC 8452, section 3. A field element is its 16 bytes; the lowest bit of the first is the coefficient of x^0.
@@ -196,6 +209,7 @@ def handle_fits(integrity, encryption, aad, key, handle):
 KINDS = {
     "expand": lambda key, *words: b"".join(key_expansion(key)) == b"".join(words),
     "cipher": lambda key, plain, crypt: (cipher(key, plain), inv_cipher(key, crypt)) == (crypt, plain),
+    "ctr": lambda key, counter, plain, crypt: (ctr(key, counter, plain), ctr(key, counter, crypt)) == (crypt, plain),
     "sum": lambda a, b, result: xor(a, b) == result,
     "dot": lambda a, b, result: dot(a, b) == result,
     "polyval": lambda h, blocks, result: polyval(h, blocks) == result,

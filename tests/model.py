@@ -16,6 +16,8 @@ MACHINE_SIZE = 924
 CPU_SIZE = 408
 MEMORY_LIMIT = 1_048_576
 RANDOM_SIZE = 48
+COUNTER_SIZE = 16
+BUFFER_LIMIT = 65_536
 PROCESSOR_LIMIT = 16
 
 # Bits of the feature byte.
@@ -291,16 +293,21 @@ def legal(aad, cpl, i):
     return not reserved and key_type == {16: 0, 32: 1}[i.size] and not (cpl_0_only and cpl > 0) and not forbidden
 
 
-def use(m, processor, cpu, i, handle):
+def opened(m, processor, cpu, i, handle):
+    """The key of a handle that is legal for the use and authentic, or None; the flags say which."""
     iwkey = m.keys[processor]
     key = key_locker.unwrap(iwkey.integrity, iwkey.encryption, handle) if legal(handle[:16], cpu.cpl, i) else None
+    cpu.set_flags(ZF if key is None else 0)
+    return key
+
+
+def use(m, processor, cpu, i, handle):
+    key = opened(m, processor, cpu, i, handle)
     if key is None:
-        cpu.set_flags(ZF)
         return
     aes = key_locker.cipher if i.encrypts else key_locker.inv_cipher
     for n in range(8) if i.wide else [xmm_number(i.operands[0])]:
         cpu.set_xmm(n, aes(key, cpu.xmm(n)))
-    cpu.set_flags(0)
 
 
 def load_iwkey(m, processor, cpu, i, random):
@@ -339,6 +346,24 @@ def step(machine, processor, cpu, memory, random, string):
         use(m, processor, cpu, i, handle_in(memory, cpu, i))
     cpu.rip += i.length
     return m.to_bytes(), bytes(cpu.bytes)
+
+
+# ---- counter mode
+
+SINGLE_FORM = {48: "aesenc128kl", 64: "aesenc256kl"}  # by the handle's size: what the call is judged as
+
+
+def ctr(machine, processor, cpu, handle, counter, buffer):
+    """The CPU record and the buffer after it."""
+    m = machine_from(machine)
+    refuse_if(processor >= m.count, 3)
+    cpu = cpu_from(cpu)
+    refuse_if(len(buffer) > BUFFER_LIMIT or len(handle) not in SINGLE_FORM or len(counter) != COUNTER_SIZE, 18)
+    i = Instruction(SINGLE_FORM[len(handle)], lock=False, operands=[], length=0)
+    refuse_if(undefined(m, cpu, i), 10)
+    refuse_if(cpu.control & CR0_TS, 11)
+    key = opened(m, processor, cpu, i, handle)
+    return bytes(cpu.bytes), buffer if key is None else key_locker.ctr(key, counter, buffer)
 
 
 # ---- CPUID, by 343965-001US, chapter 2
