@@ -52,17 +52,18 @@ static bool gave_other(struct simulator *s, bool same)
     return done;
 }
 
-static bool was_step(const struct simulator *s)
+static bool wrote_zf(const struct simulator *s)
 {
-    return s->last.call == CALL_LOAD || s->last.call == CALL_ENCODE || s->last.call == CALL_USE || s->last.call == CALL_UNKNOWN_STEP;
+    return s->last.call == CALL_LOAD || s->last.call == CALL_ENCODE || s->last.call == CALL_USE || s->last.call == CALL_UNKNOWN_STEP ||
+           s->last.call == CALL_CTR;
 }
 
 static void expect_zf(struct simulator *s)
 {
     uint64_t zf = take_number(&s->line, "ZF", 1);
     take_end(&s->line);
-    if (!was_step(s))
-        bad_line(&s->line, "expected an instruction as the last call before 'expect zf'");
+    if (!wrote_zf(s))
+        bad_line(&s->line, "expected an instruction or a ctr as the last call before 'expect zf'");
     if (gave_other(s, s->last.zf == zf))
         printf("ZF is %u\n", s->last.zf);
 }
@@ -138,9 +139,9 @@ void run_expect(struct simulator *s)
     } else if (accept(&s->line, "done")) {
         expect_answer(s, KEYLOCKER_DONE);
     } else if (accept(&s->line, "refused")) {
-        uint64_t number = take_number(&s->line, "a refusal", KEYLOCKER_KEYRING_FULL);
+        uint64_t number = take_number(&s->line, "a refusal", KEYLOCKER_BAD_SIZE);
         if (number == KEYLOCKER_DONE)
-            bad_line(&s->line, "expected a refusal from 1 to %d; 0 is 'expect done'", KEYLOCKER_KEYRING_FULL);
+            bad_line(&s->line, "expected a refusal from 1 to %d; 0 is 'expect done'", KEYLOCKER_BAD_SIZE);
         expect_answer(s, (uint32_t)number);
     } else if (accept(&s->line, "zf")) {
         expect_zf(s);

@@ -139,6 +139,8 @@ static const char *refusal_words(enum call call, uint32_t number)
         return "the CPU record does not have 408 bytes";
     case KEYLOCKER_BAD_CPU:
         return "CPL above 3, or a zero field of the CPU record is not zero";
+    case KEYLOCKER_BAD_SIZE:
+        return "more than 65,536 bytes, a handle neither 48 nor 64, or a counter block not 16";
     case KEYLOCKER_BAD_MEMORY:
         return "memory above 1,048,576 bytes";
     case KEYLOCKER_BAD_RANDOM:

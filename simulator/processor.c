@@ -26,17 +26,30 @@ static uint8_t cpl_of(struct simulator *s)
 
 /* ---- steps */
 
+/* The record gets the CPL of the statement for one call; the one that it had. */
+static uint8_t lend_cpl(struct simulator *s)
+{
+    uint8_t own_cpl = this_cpu(s)->record[KEYLOCKER_CPU_CPL];
+    this_cpu(s)->record[KEYLOCKER_CPU_CPL] = cpl_of(s);
+    return own_cpl;
+}
+
+/* Behind that call, which has written ZF where it was done. */
+static bool cpu_answered(struct simulator *s, enum call call, uint32_t answer, uint8_t own_cpl)
+{
+    this_cpu(s)->record[KEYLOCKER_CPU_CPL] = own_cpl;
+    bool done = answered(s, call, answer);
+    s->last.zf = zf_of(this_cpu(s));
+    return done;
+}
+
 bool execute(struct simulator *s, enum call call, const uint8_t *string, size_t len, const struct bytes *random)
 {
     struct cpu *cpu = this_cpu(s);
-    uint8_t own_cpl = cpu->record[KEYLOCKER_CPU_CPL];
-    cpu->record[KEYLOCKER_CPU_CPL] = cpl_of(s);
+    uint8_t own_cpl = lend_cpl(s);
     uint32_t answer = keylocker_step(s->machine.data, s->machine.len, (uint8_t)s->processor, cpu->record, cpu->len, s->memory, s->memory_len,
                                      random == NULL ? NULL : random->data, random == NULL ? 0 : random->len, string, len);
-    cpu->record[KEYLOCKER_CPU_CPL] = own_cpl;
-    bool done = answered(s, call, answer);
-    s->last.zf = zf_of(cpu);
-    return done;
+    return cpu_answered(s, call, answer, own_cpl);
 }
 
 static void run_step(struct simulator *s)
@@ -56,6 +69,47 @@ static void run_step(struct simulator *s)
         print_answer(s, "0 done: an idle step");
     else
         print_answer(s, "0 done, ZF %u: RIP is %" PRIu64 " bytes on", s->last.zf, get_field(this_cpu(s), rip) - before);
+}
+
+/* ---- counter mode */
+
+static void print_counted(struct simulator *s, const struct name *result)
+{
+    size_t len = s->left.len, counters = (len + 15) / 16;
+    if (s->last.zf)
+        print_answer(s, "0 done, ZF 1: not a handle of this IWKey, or not for this use; the bytes are unchanged");
+    else if (len == 0)
+        print_answer(s, "0 done, ZF 0: the handle opens, there are no bytes");
+    else
+        print_answer(s, "0 done, ZF 0: the handle opens, %zu byte%s XORed with %zu encrypted counter%s", len, len == 1 ? " is" : "s are", counters,
+                     counters == 1 ? "" : "s");
+    if (!s->last.zf)
+        print_result(s, "result", result, s->left.data, len);
+}
+
+/* Handle and counter block are one word each, of any length, so that a trace can see others refused. */
+static void run_ctr(struct simulator *s)
+{
+    s->left.len = s->right.len = 0;
+    append_word_value(s, take_word(&s->line, "a handle"), &s->right);
+    size_t handle_len = s->right.len;
+    append_word_value(s, take_word(&s->line, "a counter block"), &s->right);
+    if (!accept(&s->line, "empty"))
+        take_bytes(s, "bytes, or empty", &s->left);
+    struct name *result = take_result(s);
+    take_end(&s->line);
+    print_statement(s);
+    struct cpu *cpu = this_cpu(s);
+    uint8_t own_cpl = lend_cpl(s);
+    uint32_t answer = keylocker_ctr(s->machine.data, s->machine.len, (uint8_t)s->processor, cpu->record, cpu->len, s->right.data, handle_len,
+                                    s->right.data + handle_len, s->right.len - handle_len, s->left.data, s->left.len);
+    bool done = cpu_answered(s, CALL_CTR, answer, own_cpl);
+    if (done)
+        print_counted(s, result);
+    if (done && !s->last.zf)
+        give_value(s, result, s->left.data, s->left.len);
+    else
+        take_value_away(s, result);
 }
 
 /* ---- CPUID */
@@ -190,6 +244,7 @@ static const struct {
     bool has_cpl;
 } verbs[] = {
     {"step", run_step, true},
+    {"ctr", run_ctr, true},
     {"cpuid", run_cpuid, true},
     {"read", run_read, true},
     {"write", run_write, true},
@@ -201,8 +256,8 @@ static const struct {
 
 static void run_verb(struct simulator *s)
 {
-    static const char expected[] = "an instruction (loadiwkey, encodekey128, encodekey256, aesenc128kl and so on), step, cpuid, read, write, set, bytes, "
-                                   "show or expect";
+    static const char expected[] = "an instruction (loadiwkey, encodekey128, encodekey256, aesenc128kl and so on), step, ctr, cpuid, read, write, set, "
+                                   "bytes, show or expect";
     struct word word = take_word(&s->line, expected);
     const struct mnemonic *mnemonic = mnemonic_named(word);
     if (mnemonic != NULL) {
@@ -213,7 +268,7 @@ static void run_verb(struct simulator *s)
         if (!word_is(word, verbs[i].name))
             continue;
         if (s->cpl >= 0 && !verbs[i].has_cpl)
-            bad_line(&s->line, "expected an instruction, step, cpuid, read or write behind cpl, not '%s'", verbs[i].name);
+            bad_line(&s->line, "expected an instruction, step, ctr, cpuid, read or write behind cpl, not '%s'", verbs[i].name);
         verbs[i].run(s);
         return;
     }

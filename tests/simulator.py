@@ -101,6 +101,8 @@ def test_random(tmp):
         need(" 260 calls" in summary and int(re.search("(\\d+) expectations", summary)[1]) > 750, summary)
         need(re.search("step 67 f30f38d.*\nexpect done\nexpect zf 0\n", text.getvalue()), f"seed {seed}: no handle opens by a string with 67")
         need(re.search("step empty.*\nexpect done\n", text.getvalue()), f"seed {seed}: no idle step")
+        for seen in ["zf 0\nexpect counted = [0-9a-f]{34}", "zf 0\nexpect counted = 00\\*0", "zf 1"]:
+            need(re.search(f" ctr .*\nexpect done\nexpect {seen}", text.getvalue()), f"seed {seed}: no counter call with", seen)
         need(re.search("^taken\nexpect done\nexpect machine = .*01000001$", text.getvalue(), re.M), f"seed {seed}: no backup is taken")
 
 
@@ -179,6 +181,20 @@ cpu 0 step 67 f3 0f 38 dc 04 24
 -- 0 done, ZF 1: RIP is 7 bytes on
 cpu 0 aesenc128kl at 1048575 00*16
 -- 14 #PF: a handle byte lies outside memory
+cpu 0 encodekey128 22*16 restrict 2 -> opener
+cpu 0 encodekey128 22*16 -> handle
+cpu 0 ctr handle 00*16 33*33
+-- 0 done, ZF 0: the handle opens, 33 bytes are XORed with 3 encrypted counters
+cpu 0 ctr handle 00*16 33 -> one
+-- 0 done, ZF 0: the handle opens, 1 byte is XORed with 1 encrypted counter
+cpu 0 ctr handle 00*16 empty
+-- 0 done, ZF 0: the handle opens, there are no bytes
+cpu 0 ctr opener 00*16 33*33
+-- 0 done, ZF 1: not a handle of this IWKey, or not for this use; the bytes are unchanged
+cpu 0 ctr handle 00*15 33*33
+-- 18 more than 65,536 bytes, a handle neither 48 nor 64, or a counter block not 16
+cpu 0 cpl 4 ctr handle 00*15 33*33
+-- 5 CPL above 3, or a zero field
 cpu 0 loadiwkey 11*48 random not-ready
 -- 0 done, ZF 1: the random source was not ready
 cpu 0 write IA32_COPY_PLATFORM_TO_LOCAL 1
@@ -261,7 +277,7 @@ def altered(line):
     if found := re.match(r"(expect e[abcd]x )(\w+)", line, re.I):
         return found[1] + str(int(found[2], 0) ^ 1)
     if found := re.match(r"(.*\brefused )(\d+)", line):
-        return found[1] + str(int(found[2]) % 17 + 1)
+        return found[1] + str(int(found[2]) % 18 + 1)
     if re.match(r"expect done", line):
         return "expect refused 6"
     if found := re.match(r"(cpu \S+ expect (?:r(?!ecord)[a-z0-9]+|cpl|control) = )(\w+)", line):
@@ -274,6 +290,7 @@ def test_unmet_by_refused(tmp):
     head = "power-on 1\ncpu 0 loadiwkey 00*48\ncpu 0 read 0x990\ncpu 0 cpuid 0x19\nkeyring records 2\nkeyring add 00*12 00*48\nkeyring lookup 00*12\n"
     for refused, expect in [
         ("cpu 0 step f0", "zf 0"),
+        ("cpu 0 ctr 00*48 00*15 empty", "zf 0"),
         ("cpu 0 read 0x992", "value 0"),
         ("cpu 0 cpl 4 cpuid 0x19", "eax 7"),
         ("cpu 0 cpl 4 cpuid 0", "edx 0"),
@@ -288,6 +305,7 @@ def test_unmet_words(tmp):
     for call, expect, found in [
         ("cpu 0 loadiwkey 00*48", "zf 1", "ZF is 0"),
         ("cpu 0 set rflags = 0x42\ncpu 0 step empty", "zf 0", "ZF is 1"),
+        ("cpu 0 ctr 00*48 00*16 empty", "zf 0", "ZF is 1"),
         ("cpu 0 read 0x990", "value 2", "the value is 0"),
         ("cpu 0 cpuid 7", "ecx 0x400000", "ecx is 0x800000"),
         ("cpu 0 cpuid 0x19", "ebx 5", "ebx is 0x15"),
@@ -333,7 +351,7 @@ BAD_LINES = [
     ("cpu 256 show", "a number from 0 to 255"),
     ("cpu 0", "expected an instruction"),
     ("cpu 0 aesenc", "not 'aesenc'"),
-    ("cpu 0 cpl 3 set rax = 1", "expected an instruction, step, cpuid, read or write behind cpl, not 'set'"),
+    ("cpu 0 cpl 3 set rax = 1", "expected an instruction, step, ctr, cpuid, read or write behind cpl, not 'set'"),
     ("cpu 0 loadiwkey 00*47", "48 bytes, and these are 47"),
     ("cpu 0 loadiwkey 00*48 random 00", "expected not-ready or random data, 48 bytes, and these are 1"),
     ("cpu 0 loadiwkey 00*48 no-decrypt", "expected the end of the line, not 'no-decrypt'"),
@@ -352,6 +370,14 @@ BAD_LINES = [
     ("cpu 0 step", "expected an instruction string in hexadecimal, or empty after 'step'"),
     ("cpu 0 step f3 0f 3", "'3' has an odd number of hexadecimal digits"),
     ("cpu 0 step 0xf3", "expected bytes without 0x"),
+    ("cpu 0 ctr", "expected a handle after 'ctr'"),
+    ("cpu 0 ctr good", "expected a counter block after 'good'"),
+    ("cpu 0 ctr good 00*16", "expected bytes, or empty after '00*16'"),
+    ("cpu 0 ctr good 00*16 -> sealed", "expected bytes, or empty before '->'"),
+    ("cpu 0 ctr good 00*16 empty 00", "expected the end of the line, not '00'"),
+    ("cpu 0 ctr at 0 00*16 00", "'at' is no name given before"),
+    ("cpu 0 ctr taken 00*16 00", "'taken' has no value: the call in line 4 gave it none"),
+    ("ctr good 00*16 00", "'ctr' begins no statement"),
     ("cpu 0 cpuid", "expected a leaf after 'cpuid'"),
     ("cpu 0 cpuid 0x100000000", "expected a leaf, a number from 0 to 4294967295"),
     ("cpu 0 cpuid 19h", "not '19h'"),
@@ -403,7 +429,7 @@ BAD_LINES = [
     ("expect kind 0", "expected a keyring lookup as the last call"),
     ("expect kind 256", "a number from 0 to 255"),
     ("expect", "expected done, refused, zf, value, kind, eax, ebx, ecx, edx or bytes after 'expect'"),
-    ("expect refused 18", "a number from 0 to 17"),
+    ("expect refused 19", "a number from 0 to 18"),
     ("expect refused 0", "0 is 'expect done'"),
     ("expect zf 2", "a number from 0 to 1"),
     ("expect value 1", "expected a read as the last call"),
@@ -441,6 +467,8 @@ def test_bad_lines(tmp):
 def test_first_line(tmp):
     need("standard input:1: " in must(simulate("expect done"), 2, "expect first").stderr, "line 1")
     need("standard input:1: " in must(simulate("expect zf 0"), 2, "expect first").stderr, "line 1")
+    said = must(simulate("power-on 1\nexpect zf 0"), 2, "expect zf of a power-on").stderr
+    need("standard input:2: expected an instruction or a ctr as the last call" in said, said)
 
 
 def test_usage(tmp):
@@ -560,6 +588,7 @@ def test_valgrind(tmp):
         ([ROOT / "tests/traces/cpuid.trace"], 0),
         ([ROOT / "tests/traces/address-size.trace"], 0),
         ([ROOT / "tests/traces/idle.trace"], 0),
+        ([ROOT / "tests/traces/ctr.trace"], 0),
         ([ROOT / "tests/traces/keyring.trace"], 0),
         (["--help"], 0),
     ]:
@@ -605,6 +634,9 @@ NUMBERS = {
     "KEYLOCKER_BAD_KEYRING": 15,
     "KEYLOCKER_NO_LABEL": 16,
     "KEYLOCKER_KEYRING_FULL": 17,
+    "KEYLOCKER_BAD_SIZE": 18,
+    "KEYLOCKER_COUNTER_SIZE": 16,
+    "KEYLOCKER_BUFFER_LIMIT": 65_536,
     "KEYLOCKER_KEYRING_LIMIT": 819 * 80,
     "KEYLOCKER_KEYRING_RECORD": 80,
     "KEYLOCKER_KEYRING_HEADS": 16,

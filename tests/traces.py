@@ -259,6 +259,12 @@ class Trace:
             record[400] = self.cpl
         return bytes(record)
 
+    def keep_record(self, record, own_cpl):
+        """What a call that writes ZF left of it; the CPL of the statement goes."""
+        self.cpu = self.cpus[self.processor] = bytearray(record)
+        self.cpu[400] = own_cpl
+        self.zf = Cpu(self.cpu).rflags >> 6 & 1
+
     def step(self, string, random_data=b""):
         """Whether it was done."""
         own_cpl = self.cpu[400] if len(self.cpu) > 400 else None
@@ -267,11 +273,18 @@ class Trace:
         after = self.call(lambda: model.step(self.machine, self.processor, before, memory, random_data, string))
         if after is None:
             return False
-        self.machine, self.cpus[self.processor] = after[0], bytearray(after[1])
-        self.cpu = self.cpus[self.processor]
-        self.cpu[400] = own_cpl
-        self.zf = Cpu(self.cpu).rflags >> 6 & 1
+        self.machine = after[0]
+        self.keep_record(after[1], own_cpl)
         return True
+
+    def ctr(self):
+        handle, counter = (self.word_bytes(self.words.pop(0)) for _ in range(2))
+        data = b"" if self.accept("empty") else self.bytes()
+        own_cpl = self.cpu[400] if len(self.cpu) > 400 else None
+        after = self.call(lambda: model.ctr(self.machine, self.processor, self.lent_record(), handle, counter, data))
+        if after is not None:
+            self.keep_record(after[0], own_cpl)
+        self.result(after[1] if after is not None and self.zf == 0 else None)
 
     def put(self, *blocks):
         data = b"".join(blocks)
@@ -401,6 +414,7 @@ STATEMENTS = {
 VERBS = {
     "loadiwkey": Trace.loadiwkey,
     "step": Trace.raw_step,
+    "ctr": Trace.ctr,
     "cpuid": Trace.cpuid,
     "read": Trace.read,
     "write": Trace.write,
@@ -498,6 +512,14 @@ class RandomTrace(RandomStatements):
         handle = self.handle(self.some(size, size, size, 128, 256))
         return f"aes{self.some('enc', 'dec')}{wide}{size}kl {handle} {self.hex(128 if wide else 16)}"
 
+    def ctr(self):
+        """Few blocks, often with a short end; the counter mostly about to carry; seldom a size that is refused."""
+        size, length = self.some(128, 256), self.some(0, 0, 1, 16, 17, 17, self.random.randrange(200))
+        carry = self.some(0, 4, 8, 12, 15, 15)
+        counter = self.random.randbytes(carry) + b"\xff" * (15 - carry) + bytes([self.some(0xFF, 0xFE, self.random.randrange(256))])[: 16 - carry]
+        handle = self.handle(size) if self.random.random() < 0.93 else self.some("00*48", "00*64", "00*47", "00*65")
+        return f"ctr {handle} {counter.hex() + self.some(*[''] * 15, '00')} {self.hex(length) or 'empty'} -> counted"
+
     def again(self, processor, mnemonic):
         """The same use, of the handle that is still in its place: by RBX, whose bits 63:32 lead elsewhere without 67."""
         high = self.some(0, 1, 2**31, self.random.getrandbits(32))
@@ -525,7 +547,7 @@ class RandomTrace(RandomStatements):
         if self.random.random() < 0.18:
             return self.some("taken", "taken", "taken", "settle good", "settle bad", "settle 2", "sleep old", "sleep new", "sleep junk", "sleep 3")
         cpl = self.some("", "", "", "", " cpl 3")
-        what = self.random.choices([self.load, self.encode, self.use, self.raw, self.idle, self.cpuid, self.backup], [3, 3, 8, 2, 2, 2, 5])[0]
+        what = self.random.choices([self.load, self.encode, self.use, self.ctr, self.raw, self.idle, self.cpuid, self.backup], [3, 3, 8, 6, 2, 2, 2, 5])[0]
         return f"cpu {self.random.randrange(3) if self.random.random() < 0.98 else 3}{cpl} {what()}"
 
     def expectations(self, text):
@@ -533,6 +555,8 @@ class RandomTrace(RandomStatements):
         yield f"expect refused {trace.number}" if trace.number else "expect done"
         if trace.zf is not None:
             yield f"expect zf {trace.zf}"
+        if trace.zf == 0 and " ctr " in text:
+            yield f"expect counted = {trace.names['counted'].hex() or '00*0'}"
         if trace.value is not None:
             yield f"expect value {trace.value}"
         if trace.cpuid_answer is not None:
