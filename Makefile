@@ -9,7 +9,8 @@
 # make test-machine  compare the proved machine with the model in Python, on 20,000 random calls
 # make test-host, test-valgrind, test-faults, test-stack  compare the C library with a model in C, and run it on a small stack; tests/host/rules.mk says how
 # make test-constants  which tables stand in the library, and how many bytes of read-only data
-# make test-simulator  the simulator on traces that the model in Python checks, the installed files, and the examples for C
+# make test-simulator  the simulator on traces that the model in Python checks, the installed files, and the examples for C; counter calls through it
+#                against NIST's vectors and OpenSSL
 # make clean     remove build/; what rt made is in target/
 
 CC = gcc
@@ -73,6 +74,7 @@ test-constants: build/libkeylocker.a
 test-simulator: all
 	python3 tests/traces.py
 	python3 tests/simulator.py
+	python3 tests/counter.py
 
 # ---- measuring
 
