@@ -50,6 +50,7 @@ uint8_t *small_stack_top;
 
 ON_SMALL_STACK(power_on, "");
 ON_SMALL_STACK(step, FIVE_ON_STACK);
+ON_SMALL_STACK(ctr, FIVE_ON_STACK);
 ON_SMALL_STACK(cpuid, FOUR_ON_STACK);
 ON_SMALL_STACK(read, "");
 ON_SMALL_STACK(write, "");
@@ -60,12 +61,11 @@ ON_SMALL_STACK(reset, "");
 ON_SMALL_STACK(keyring_lookup, "");
 ON_SMALL_STACK(keyring_add, "");
 
-const struct entries on_normal_stack = {keylocker_power_on, keylocker_step,   keylocker_cpuid, keylocker_read,  keylocker_write,
+const struct entries on_normal_stack = {keylocker_power_on, keylocker_step,   keylocker_ctr,   keylocker_cpuid, keylocker_read,          keylocker_write,
                                         keylocker_taken,    keylocker_settle, keylocker_sleep, keylocker_reset, keylocker_keyring_lookup,
                                         keylocker_keyring_add};
-const struct entries on_small_stack = {small_power_on, small_step,   small_cpuid, small_read,  small_write,
-                                       small_taken,    small_settle, small_sleep, small_reset, small_keyring_lookup,
-                                       small_keyring_add};
+const struct entries on_small_stack = {small_power_on, small_step,   small_ctr,   small_cpuid, small_read,           small_write,
+                                       small_taken,    small_settle, small_sleep, small_reset, small_keyring_lookup, small_keyring_add};
 
 /* The library keeps nothing between calls, so a call can be left in the middle. */
 static void on_fault(int number, siginfo_t *info, void *context)

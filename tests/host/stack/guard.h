@@ -14,6 +14,7 @@ enum { STACK_STEP = 16, STACK_ROOM = 65536 };
 struct entries {
     __typeof__(keylocker_power_on) *power_on;
     __typeof__(keylocker_step) *step;
+    __typeof__(keylocker_ctr) *ctr;
     __typeof__(keylocker_cpuid) *cpuid;
     __typeof__(keylocker_read) *read;
     __typeof__(keylocker_write) *write;

@@ -87,6 +87,32 @@ static void with_free_record(struct lent *lent)
 /* record 1 is the end of chain 0, and the last that is met */
 static void with_cycle(struct lent *lent) { lent->keyring[KEYLOCKER_KEYRING_RECORD + KEYLOCKER_RECORD_NEXT] = 1; }
 
+static void with_longer_handle(struct lent *lent) { lent->handle_length = KEYLOCKER_HANDLE_256_SIZE; }
+
+/* the wide bit */
+static void without_wide(struct lent *lent) { lent->machine[KEYLOCKER_MACHINE_FEATURES] &= (uint8_t)~KEYLOCKER_FEATURE_WIDE; }
+
+static void with_longer_without_wide(struct lent *lent)
+{
+    with_longer_handle(lent);
+    without_wide(lent);
+}
+
+static void with_longer_other_tag(struct lent *lent)
+{
+    with_longer_handle(lent);
+    with_other_tag(lent);
+}
+
+static void with_handle_cut(struct lent *lent) { lent->handle_length--; }
+
+/* a counter call over so many bytes, none of which it writes where there are none */
+#define COUNTED(name, length)                                                                      \
+    {name ", AES-128", CTR, length, NULL, 0, false, (length) != 0},                                \
+    {name ", AES-128, not wide", CTR, length, without_wide, 0, false, (length) != 0},              \
+    {name ", AES-256", CTR, length, with_longer_handle, 0, false, (length) != 0},                  \
+    {name ", AES-256, not wide", CTR, length, with_longer_without_wide, 0, false, (length) != 0}
+
 #define USE(name, string)                                                       \
     {name, STEP, string, NULL, 0, false, false},                                \
     {name ", illegal handle", STEP, string, with_reserved_bit, 0, true, false}, \
@@ -140,6 +166,17 @@ const struct kind kinds[] = {
     {"step, LOADIWKEY's #GP", STEP, LOAD, at_cpl_3, KEYLOCKER_GP, false, false},
     {"step, a use's #GP", STEP, ENC_128, not_canonical, KEYLOCKER_GP, false, false},
     {"step, #PF", STEP, ENC_128, outside_memory, KEYLOCKER_PF, false, false},
+    COUNTED("ctr, no bytes", 0),
+    COUNTED("ctr, 16 bytes", 16),
+    COUNTED("ctr, 1,021 bytes", 1021),
+    COUNTED("ctr, 65,536 bytes", KEYLOCKER_BUFFER_LIMIT),
+    {"ctr, illegal handle", CTR, 1021, with_reserved_bit, 0, true, false},
+    {"ctr, handle not authentic, AES-128", CTR, 1021, with_other_tag, 0, true, false},
+    {"ctr, handle not authentic, AES-256", CTR, 1021, with_longer_other_tag, 0, true, false},
+    {"ctr, machine refused", CTR, 1021, with_bad_machine, KEYLOCKER_BAD_MACHINE, false, false},
+    {"ctr, CPU record refused", CTR, 1021, with_bad_cpu, KEYLOCKER_BAD_CPU, false, false},
+    {"ctr, size refused", CTR, 1021, with_handle_cut, KEYLOCKER_BAD_SIZE, false, false},
+    {"ctr, #UD", CTR, 1021, without_cr4_kl, KEYLOCKER_UD, false, false},
     {"keyring lookup, the last of a chain", LOOKUP, 1, NULL, 0, false, false},
     {"keyring lookup, no such label", LOOKUP, NEW_LABEL, NULL, KEYLOCKER_NO_LABEL, false, false},
     {"keyring lookup, refused", LOOKUP, 1, with_cycle, KEYLOCKER_BAD_KEYRING, false, false},
@@ -163,6 +200,13 @@ static uint32_t step(const struct entries *entries, struct lent *lent)
 {
     return entries->step(lent->machine, sizeof lent->machine, PROCESSOR, lent->cpu, sizeof lent->cpu, lent->memory, sizeof lent->memory, lent->random,
                          lent->random_length, lent->string, lent->string_length);
+}
+
+static uint32_t ctr(const struct entries *entries, struct lent *lent)
+{
+    const uint8_t *handle = lent->memory + (lent->handle_length == KEYLOCKER_HANDLE_256_SIZE ? HALF : 0);
+    return entries->ctr(lent->machine, sizeof lent->machine, PROCESSOR, lent->cpu, sizeof lent->cpu, handle, lent->handle_length, lent->counter,
+                        sizeof lent->counter, lent->buffer, lent->buffer_length);
 }
 
 static uint32_t cpuid(const struct entries *entries, uint32_t leaf, struct lent *lent)
@@ -189,6 +233,8 @@ static uint32_t answer(const struct kind *kind, const struct entries *entries, s
         return entries->power_on(lent->machine, length, (uint8_t)kind->number, KEYLOCKER_FEATURE_ALL);
     case STEP:
         return step(entries, lent);
+    case CTR:
+        return ctr(entries, lent);
     case CPUID:
         return cpuid(entries, kind->number, lent);
     case READ:
@@ -265,6 +311,9 @@ bool prepare(const struct kind *kind, struct lent *lent)
     memset(lent->found, 0x5A, sizeof lent->found);
     lent->found_kind = 0x5A;
     lent->random_length = sizeof lent->random;
+    memset(lent->counter, 0xFF, sizeof lent->counter);
+    lent->handle_length = KEYLOCKER_HANDLE_128_SIZE;
+    lent->buffer_length = kind->call == CTR ? kind->number : 0;
     put_registers(lent);
     put_string(lent, LOAD);
     bool done = keylocker_power_on(lent->machine, sizeof lent->machine, COUNT, KEYLOCKER_FEATURE_ALL) == KEYLOCKER_DONE &&
@@ -295,19 +344,32 @@ static const char *keyring_not_as_meant(const struct kind *kind, const struct le
     return NULL;
 }
 
+/* of the buffer, and of all in the CPU record but RFLAGS */
+static const char *ctr_not_as_meant(const struct kind *kind, const struct lent *before, const struct lent *after)
+{
+    bool writes = kind->call == CTR && kind->writes;
+    uint8_t cpu[KEYLOCKER_CPU_SIZE];
+    if ((memcmp(before->buffer, after->buffer, sizeof after->buffer) != 0) != writes)
+        return writes ? "the buffer is as it was" : "the buffer was written";
+    memcpy(cpu, after->cpu, sizeof cpu);
+    memcpy(cpu + KEYLOCKER_CPU_RFLAGS, before->cpu + KEYLOCKER_CPU_RFLAGS, 8);
+    return kind->call == CTR && memcmp(before->cpu, cpu, sizeof cpu) != 0 ? "more of the CPU record than RFLAGS was written" : NULL;
+}
+
 const char *not_as_meant(const struct kind *kind, const struct lent *before, const struct lent *after)
 {
-    bool identifies = kind->call == CPUID && !kind->answer, writes = kind->writes && kind->call != ADD;
+    bool identifies = kind->call == CPUID && !kind->answer, writes = kind->writes && kind->call != ADD && kind->call != CTR;
     bool idle = kind->call == STEP && !after->string_length;
     if (after->answer != kind->answer)
         return "another answer than meant";
     if ((memcmp(before->machine, after->machine, sizeof after->machine) != 0) != writes)
         return writes ? "the machine is as it was" : "the machine was written";
-    if (kind->call == STEP && !kind->answer && ((after->cpu[KEYLOCKER_CPU_RFLAGS] & KEYLOCKER_RFLAGS_ZF) != 0) != kind->fails)
+    if ((kind->call == STEP || kind->call == CTR) && !kind->answer && ((after->cpu[KEYLOCKER_CPU_RFLAGS] & KEYLOCKER_RFLAGS_ZF) != 0) != kind->fails)
         return "another ZF than meant";
     if ((kind->call == CPUID || idle) && memcmp(before->cpu, after->cpu, sizeof after->cpu) != 0)
         return "the CPU record was written";
     if ((memcmp(before->leaf, after->leaf, sizeof after->leaf) != 0) != identifies)
         return identifies ? "CPUID's numbers are as they were" : "CPUID's numbers were written";
-    return keyring_not_as_meant(kind, before, after);
+    const char *differs = ctr_not_as_meant(kind, before, after);
+    return differs ? differs : keyring_not_as_meant(kind, before, after);
 }

@@ -14,19 +14,21 @@ struct lent {
     uint32_t leaf[4]; /* CPUID's EAX, EBX, ECX, EDX */
     uint8_t keyring[KEYLOCKER_KEYRING_LIMIT], label[KEYLOCKER_LABEL_SIZE];
     uint8_t found_kind, found[KEYLOCKER_HANDLE_256_SIZE];
+    uint8_t counter[KEYLOCKER_COUNTER_SIZE], buffer[KEYLOCKER_BUFFER_LIMIT];
+    size_t handle_length, buffer_length; /* of a counter call */
     uint32_t answer;
 };
 
-enum call { POWER_ON, STEP, CPUID, READ, WRITE, TAKEN, SETTLE, SLEEP, RESET, LOOKUP, ADD };
+enum call { POWER_ON, STEP, CTR, CPUID, READ, WRITE, TAKEN, SETTLE, SLEEP, RESET, LOOKUP, ADD };
 
 struct kind {
     const char *name;
     enum call call;
-    uint32_t number; /* count, register, leaf, code or label; of a step opcode and ModRM behind F3 0F 38 */
+    uint32_t number; /* count, register, leaf, code, label or bytes in the buffer; of a step opcode and ModRM behind F3 0F 38 */
     void (*spoil)(struct lent *lent); /* or none */
     uint32_t answer;
-    bool fails;  /* ZF after a step that is done */
-    bool writes; /* the machine differs afterwards, or the keyring */
+    bool fails;  /* ZF after a step or counter call that is done */
+    bool writes; /* the machine differs afterwards, or the keyring, or the buffer */
 };
 
 extern const struct kind kinds[];

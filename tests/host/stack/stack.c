@@ -44,7 +44,8 @@ static bool same(const struct lent *a, const struct lent *b)
            memcmp(a->memory, b->memory, sizeof a->memory) == 0 &&
            memcmp(a->random, b->random, sizeof a->random) == 0 && memcmp(a->string, b->string, sizeof a->string) == 0 &&
            memcmp(a->keyring, b->keyring, sizeof a->keyring) == 0 && memcmp(a->label, b->label, sizeof a->label) == 0 &&
-           a->found_kind == b->found_kind && memcmp(a->found, b->found, sizeof a->found) == 0;
+           a->found_kind == b->found_kind && memcmp(a->found, b->found, sizeof a->found) == 0 &&
+           memcmp(a->counter, b->counter, sizeof a->counter) == 0 && memcmp(a->buffer, b->buffer, sizeof a->buffer) == 0;
 }
 
 /* NULL and what the call needs, or what is wrong. The call on the normal stack is the first, so that a dynamic linker has bound what the library calls. */
