@@ -87,10 +87,29 @@ static unsigned expand_key(const uint8_t *key, size_t key_length, uint8_t w[WORD
     return rounds;
 }
 
-static void add_round_key(uint8_t state[16], uint8_t w[WORDS_MOST][4], unsigned round)
+struct schedule {
+    uint8_t key[32];
+    size_t key_length;
+    unsigned rounds;
+    uint8_t w[WORDS_MOST][4];
+};
+
+/* The last key's is kept: counter mode asks for it block by block. */
+static const struct schedule *schedule_of(const uint8_t *key, size_t key_length)
+{
+    static struct schedule last;
+    if (last.key_length == key_length && memcmp(last.key, key, key_length) == 0)
+        return &last;
+    memcpy(last.key, key, key_length);
+    last.key_length = key_length;
+    last.rounds = expand_key(key, key_length, last.w);
+    return &last;
+}
+
+static void add_round_key(uint8_t state[16], const struct schedule *schedule, unsigned round)
 {
     for (unsigned i = 0; i < 16; i++)
-        state[i] ^= w[4 * round + i / 4][i % 4];
+        state[i] ^= schedule->w[4 * round + i / 4][i % 4];
 }
 
 static void substitute(uint8_t state[16], const uint8_t box[256])
@@ -127,16 +146,16 @@ static void mix_columns(uint8_t state[16], const uint8_t a[4])
 void aes_encrypt(const uint8_t *key, size_t key_length, const uint8_t in[16], uint8_t out[16])
 {
     static const uint8_t a[4] = {2, 1, 1, 3};
-    uint8_t w[WORDS_MOST][4], state[16];
-    unsigned rounds = expand_key(key, key_length, w);
+    const struct schedule *schedule = schedule_of(key, key_length);
+    uint8_t state[16];
     memcpy(state, in, 16);
-    add_round_key(state, w, 0);
-    for (unsigned round = 1; round <= rounds; round++) {
+    add_round_key(state, schedule, 0);
+    for (unsigned round = 1; round <= schedule->rounds; round++) {
         substitute(state, s_box);
         shift_rows(state, 0);
-        if (round < rounds)
+        if (round < schedule->rounds)
             mix_columns(state, a);
-        add_round_key(state, w, round);
+        add_round_key(state, schedule, round);
     }
     memcpy(out, state, 16);
 }
@@ -144,14 +163,14 @@ void aes_encrypt(const uint8_t *key, size_t key_length, const uint8_t in[16], ui
 void aes_decrypt(const uint8_t *key, size_t key_length, const uint8_t in[16], uint8_t out[16])
 {
     static const uint8_t inverse_a[4] = {0x0e, 0x09, 0x0d, 0x0b};
-    uint8_t w[WORDS_MOST][4], state[16];
-    unsigned rounds = expand_key(key, key_length, w);
+    const struct schedule *schedule = schedule_of(key, key_length);
+    uint8_t state[16];
     memcpy(state, in, 16);
-    add_round_key(state, w, rounds);
-    for (unsigned round = rounds; round-- > 0;) {
+    add_round_key(state, schedule, schedule->rounds);
+    for (unsigned round = schedule->rounds; round-- > 0;) {
         shift_rows(state, 1);
         substitute(state, inverse_s_box);
-        add_round_key(state, w, round);
+        add_round_key(state, schedule, round);
         if (round > 0)
             mix_columns(state, inverse_a);
     }

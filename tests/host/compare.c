@@ -12,7 +12,7 @@
 
 const uint64_t VALUE_BEFORE = UINT64_C(0xA5C3960F1E2D4B78);
 
-const char *const call_names[CALL_KINDS] = {"power-on", "step", "read", "write", "settle", "sleep", "reset", "taken", "cpuid"};
+const char *const call_names[CALL_KINDS] = {"power-on", "step", "read", "write", "settle", "sleep", "reset", "taken", "cpuid", "ctr"};
 
 /* A buffer of exactly its length, so that valgrind sees any access behind it. Of no bytes it is a null pointer or an empty allocation. */
 static struct buffer exact_copy(const struct trial *t, struct buffer from)
@@ -23,7 +23,8 @@ static struct buffer exact_copy(const struct trial *t, struct buffer from)
     copy.bytes = malloc(from.length);
     if (!copy.bytes)
         abort();
-    memcpy(copy.bytes, from.bytes, from.length);
+    if (from.length)
+        memcpy(copy.bytes, from.bytes, from.length);
     return copy;
 }
 
@@ -47,6 +48,7 @@ static void copy_lent(const struct trial *t, struct run *run)
     run->call = t->call;
     run->machine = exact_copy(t, t->machine);
     run->call.cpu = exact_copy(t, t->call.cpu);
+    run->call.data = exact_copy(t, t->call.data);
     lend_results(t, &run->results);
 }
 
@@ -72,16 +74,27 @@ static uint32_t library_call(struct run *r)
     case CPUID:
         return keylocker_cpuid(r->machine.bytes, r->machine.length, c->cpu.bytes, c->cpu.length, c->leaf, c->subleaf, r->results.leaf[EAX],
                                r->results.leaf[EBX], r->results.leaf[ECX], r->results.leaf[EDX]);
+    case CTR:
+        return keylocker_ctr(r->machine.bytes, r->machine.length, c->processor, c->cpu.bytes, c->cpu.length, c->handle.bytes, c->handle.length,
+                             c->counter.bytes, c->counter.length, c->data.bytes, c->data.length);
     default:
         return keylocker_reset(r->machine.bytes, r->machine.length);
     }
+}
+
+/* for valgrind to see */
+static void read_behind(bool planted, struct buffer lent)
+{
+    volatile uint8_t behind = 0;
+    if (planted && lent.bytes)
+        behind = lent.bytes[lent.length];
+    (void)behind;
 }
 
 /* What the comparison and valgrind have to see, done in the library's stead. */
 static void misuse(struct run *r)
 {
     struct call *c = &r->call;
-    volatile uint8_t behind = 0;
     if (FAULT(MEMORY_WRITTEN) && c->memory.length)
         c->memory.bytes[c->memory.length - 1] ^= 1;
     if (FAULT(RANDOM_WRITTEN) && c->random.length)
@@ -100,19 +113,27 @@ static void misuse(struct run *r)
         r->machine.bytes[r->machine.length - 1] ^= 1;
     if (FAULT(TAKEN_REFUSED_WRITES) && c->kind == TAKEN && r->number && r->machine.length)
         r->machine.bytes[r->machine.length - 1] = 1;
-    if (FAULT(BEHIND_MACHINE) && r->machine.bytes)
-        behind = r->machine.bytes[r->machine.length];
-    if (FAULT(BEHIND_CPU) && c->cpu.bytes)
-        behind = c->cpu.bytes[c->cpu.length];
-    if (FAULT(BEHIND_MEMORY) && c->memory.bytes)
-        behind = c->memory.bytes[c->memory.length];
-    if (FAULT(BEHIND_RANDOM) && c->random.bytes)
-        behind = c->random.bytes[c->random.length];
-    if (FAULT(BEHIND_STRING) && c->string.bytes)
-        behind = c->string.bytes[c->string.length];
-    if (FAULT(BEHIND_CPUID) && c->kind == CPUID && c->cpu.bytes)
-        behind = c->cpu.bytes[c->cpu.length];
-    (void)behind;
+    read_behind(FAULT(BEHIND_MACHINE), r->machine);
+    read_behind(FAULT(BEHIND_CPU), c->cpu);
+    read_behind(FAULT(BEHIND_MEMORY), c->memory);
+    read_behind(FAULT(BEHIND_RANDOM), c->random);
+    read_behind(FAULT(BEHIND_STRING), c->string);
+    read_behind(FAULT(BEHIND_CPUID) && c->kind == CPUID, c->cpu);
+}
+
+/* the same for the buffers of a counter call */
+static void misuse_ctr(struct run *r)
+{
+    struct call *c = &r->call;
+    if (FAULT(CTR_REFUSED_WRITES) && r->number && c->data.length)
+        c->data.bytes[c->data.length - 1] ^= 1;
+    if (FAULT(CTR_COUNTER_WRITTEN) && c->counter.length)
+        c->counter.bytes[c->counter.length - 1]++;
+    if (FAULT(CTR_HANDLE_WRITTEN) && c->handle.length)
+        c->handle.bytes[0] ^= 1;
+    read_behind(FAULT(BEHIND_HANDLE), c->handle);
+    read_behind(FAULT(BEHIND_COUNTER), c->counter);
+    read_behind(FAULT(BEHIND_DATA), c->data);
 }
 
 void run_library(const struct trial *t, struct run *run)
@@ -121,17 +142,22 @@ void run_library(const struct trial *t, struct run *run)
     run->call.memory = exact_copy(t, t->call.memory);
     run->call.random = exact_copy(t, t->call.random);
     run->call.string = exact_copy(t, t->call.string);
+    run->call.handle = exact_copy(t, t->call.handle);
+    run->call.counter = exact_copy(t, t->call.counter);
     run->number = library_call(run);
     if (FAULTY)
         misuse(run);
+    if (FAULTY && t->call.kind == CTR)
+        misuse_ctr(run);
 }
 
-/* The model only reads memory, random data and string: it is lent the trial's own. */
+/* The model only reads memory, random data, string, handle and counter block: it is lent the trial's own. */
 void run_model(const struct trial *t, struct run *run)
 {
     copy_lent(t, run);
     run->number = model_call(run->machine, &run->call, &run->results);
     run->call.memory.bytes = run->call.random.bytes = run->call.string.bytes = NULL;
+    run->call.handle.bytes = run->call.counter.bytes = NULL;
 }
 
 void run_free(struct run *run)
@@ -141,6 +167,9 @@ void run_free(struct run *run)
     free(run->call.memory.bytes);
     free(run->call.random.bytes);
     free(run->call.string.bytes);
+    free(run->call.handle.bytes);
+    free(run->call.counter.bytes);
+    free(run->call.data.bytes);
     free(run->results.value);
     for (int i = 0; i < LEAF_REGISTERS; i++)
         free(run->results.leaf[i]);
@@ -167,6 +196,33 @@ static bool results_as_before(const struct trial *t, const struct results *resul
     return *results->value == VALUE_BEFORE;
 }
 
+/* whether the CPU record is as before in all but RFLAGS */
+static bool flags_alone(const struct trial *t, const struct run *library)
+{
+    struct cpu before, after;
+    if (library->number)
+        return same(library->call.cpu, t->call.cpu);
+    memcpy(&before, t->call.cpu.bytes, sizeof before);
+    memcpy(&after, library->call.cpu.bytes, sizeof after);
+    memcpy(after.rflags, before.rflags, sizeof after.rflags);
+    return memcmp(&before, &after, sizeof before) == 0;
+}
+
+/* what a counter call is lent, and what it leaves */
+static const char *ctr_difference(const struct trial *t, const struct run *library, const struct run *model)
+{
+    bool data_kept = same(library->call.data, t->call.data);
+    if (!same(library->call.data, model->call.data))
+        return "data";
+    if (!same(library->call.handle, t->call.handle) || !same(library->call.counter, t->call.counter))
+        return "handle or counter block written";
+    if (library->number && !data_kept)
+        return "a refused counter call wrote the data";
+    if (!same(library->machine, t->machine) || !flags_alone(t, library))
+        return "a counter call wrote the machine, or more of the CPU record than RFLAGS";
+    return !library->number && load64(((const struct cpu *)library->call.cpu.bytes)->rflags) & ZF && !data_kept ? "data written with ZF 1" : NULL;
+}
+
 const char *difference(const struct trial *t, const struct run *library, const struct run *model)
 {
     bool machine_kept = same(library->machine, t->machine), cpu_kept = same(library->call.cpu, t->call.cpu);
@@ -190,7 +246,7 @@ const char *difference(const struct trial *t, const struct run *library, const s
         return "an idle step wrote the machine or the CPU record";
     if (t->meant != ANY_NUMBER && library->number != t->meant)
         return "not the number that the call was made for";
-    return NULL;
+    return t->call.kind == CTR ? ctr_difference(t, library, model) : NULL;
 }
 
 /* ---- reports ---- */
@@ -233,8 +289,13 @@ static void print_arguments(const struct trial *t)
     printf("address 0x%" PRIx32 ", value 0x%" PRIx64 ", code %u, ", c->address, c->value, c->code);
     printf("leaf 0x%" PRIx32 ", subleaf 0x%" PRIx32 "\n", c->leaf, c->subleaf);
     print_buffer("machine", t->machine);
-    if (c->kind == STEP || c->kind == CPUID)
+    if (c->kind == STEP || c->kind == CPUID || c->kind == CTR)
         print_buffer("CPU record", c->cpu);
+    if (c->kind == CTR) {
+        print_buffer("handle", c->handle);
+        print_buffer("counter block", c->counter);
+        print_buffer("data", c->data);
+    }
     if (c->kind != STEP)
         return;
     print_buffer("memory", c->memory);
@@ -255,4 +316,5 @@ void report(const struct trial *t, const struct run *library, const struct run *
                *model->results.leaf[i]);
     print_first_difference("machine", t->machine, library->machine, model->machine);
     print_first_difference("CPU record", t->call.cpu, library->call.cpu, model->call.cpu);
+    print_first_difference("data", t->call.data, library->call.data, model->call.data);
 }

@@ -83,6 +83,33 @@
     X(IDLE_5, "idle step refused, 5")                                                 \
     X(IDLE_6, "idle step refused, 6")                                                 \
     X(IDLE_7, "idle step refused, 7")                                                 \
+    X(CTR_LISTED, "in a list: counter call")                                          \
+    X(CTR_RESERVED, "counter call, ZF 1: a reserved AAD bit")                         \
+    X(CTR_OTHER_TYPE, "counter call, ZF 1: the key type of the other size")           \
+    X(CTR_UNKNOWN_TYPE, "counter call, ZF 1: a key type of no size")                  \
+    X(CTR_CPL_0_ONLY, "counter call, ZF 1: CPL 0 only")                               \
+    X(CTR_NO_ENCRYPTION, "counter call, ZF 1: no encryption")                         \
+    X(CTR_TAG, "counter call, ZF 1: another tag")                                     \
+    X(CTR_CUT, "counter call, ZF 1: the first 48 bytes of an encoded handle of 64")   \
+    X(CTR_GROWN, "counter call, ZF 1: an encoded handle of 48 bytes and 16 more")     \
+    X(CTR_NO_DECRYPTION, "counter call, ZF 0: no decryption")                         \
+    X(CTR_CPL_0, "counter call, ZF 0: CPL 0 only, at CPL 0")                          \
+    X(CTR_CPL_3, "counter call, ZF 0, at CPL 3")                                      \
+    X(CTR_FLAGS_0, "counter call, ZF 0, all six flags set before")                    \
+    X(CTR_FLAGS_1, "counter call, ZF 1, all six flags set before")                    \
+    X(CTR_EMPTY_0, "counter call, ZF 0: an empty buffer")                             \
+    X(CTR_EMPTY_1, "counter call, ZF 1: an empty buffer")                             \
+    X(CTR_NULL, "counter call with a null pointer for an empty buffer")               \
+    X(CTR_NOT_NULL, "counter call with another pointer for an empty buffer")          \
+    X(CTR_65537, "counter call refused, 18: 65,537 bytes")                            \
+    X(CTR_HANDLE_0, "counter call refused, 18: a handle of no bytes")                 \
+    X(CTR_HANDLE_47, "counter call refused, 18: a handle of 47 bytes")                \
+    X(CTR_HANDLE_49, "counter call refused, 18: a handle of 49 bytes")                \
+    X(CTR_HANDLE_63, "counter call refused, 18: a handle of 63 bytes")                \
+    X(CTR_HANDLE_65, "counter call refused, 18: a handle of 65 bytes")                \
+    X(CTR_COUNTER_0, "counter call refused, 18: a counter block of no bytes")         \
+    X(CTR_COUNTER_15, "counter call refused, 18: a counter block of 15 bytes")        \
+    X(CTR_COUNTER_17, "counter call refused, 18: a counter block of 17 bytes")        \
     X(CPUID_7_0, "CPUID leaf 7, subleaf 0")                                           \
     X(CPUID_7_0_NO_KL, "CPUID leaf 7, subleaf 0, without the KL feature")             \
     X(CPUID_7_OTHER, "CPUID leaf 7, another subleaf")                                 \
@@ -134,7 +161,15 @@
     X(SAME_NAME_DIRECTION, "demand 3: same name, direction forbids")                  \
     X(SAME_NAME_PROCESSOR, "demand 3: same name, on another processor")               \
     X(SAME_NAME_SLEPT, "demand 3: same name, loaded and encoded before a sleep")      \
-    X(NAME_0_AGAIN, "demand 3: name 0 before and after a sleep or reset")
+    X(SAME_NAME_0, "demand 3: name 0 before and after a sleep or reset")              \
+    /* these in the order of the seven before them */                                  \
+    X(CTR_NAME_ALLOWED, "demand 3: counter call, same name, allowed")                 \
+    X(CTR_NAME_SIZE, "demand 3: counter call, same name, key size forbids")           \
+    X(CTR_NAME_PRIVILEGE, "demand 3: counter call, same name, privilege forbids")     \
+    X(CTR_NAME_DIRECTION, "demand 3: counter call, same name, direction forbids")     \
+    X(CTR_NAME_PROCESSOR, "demand 3: counter call, same name, on another processor")  \
+    X(CTR_NAME_SLEPT, "demand 3: counter call, same name, encoded before a sleep")    \
+    X(CTR_NAME_0, "demand 3: counter call, name 0 before and after a sleep or reset")
 
 enum event {
 #define EVENT(name, text) EVENT_##name,
@@ -163,6 +198,30 @@ static const char *const probed_texts[] = {
     PROBED_EXCEPTIONS(PROBED)
 #undef PROBED
 };
+static const char *const law_texts[] = {
+#define LAW(name, text) text,
+    CTR_LAWS(LAW)
+#undef LAW
+};
+static const char *const size_texts[] = {"48 bytes", "64 bytes"};
+
+/* lengths of a counter call's buffer that each end where something may go wrong: at blocks, at groups of eight, at the limit */
+static const struct {
+    size_t length;
+    const char *text;
+} edges[] = {
+    {0, "no bytes"},    {1, "1 byte"},      {15, "15 bytes"},   {16, "16 bytes"},         {17, "17 bytes"},
+    {127, "127 bytes"}, {128, "128 bytes"}, {129, "129 bytes"}, {65535, "65,535 bytes"}, {65536, "65,536 bytes"},
+};
+enum { EDGES = sizeof edges / sizeof *edges };
+
+/* the bytes that counters carry out of */
+static const struct {
+    int byte;
+    const char *text;
+} carries_out[] = {{15, "byte 15"}, {12, "byte 12, past 2^32"}, {8, "byte 8, past 2^64"}, {0, "byte 0, past 2^128"}};
+enum { CARRIES = sizeof carries_out / sizeof *carries_out };
+
 static const char *const feature_texts[] = {"KL", "firmware", "wide forms", "backup registers", "NoBackup", "random source"};
 static const char *const form_texts[] = {"AESENC128KL",     "AESDEC128KL",     "AESENC256KL",     "AESDEC256KL",
                                          "AESENCWIDE128KL", "AESDECWIDE128KL", "AESENCWIDE256KL", "AESDECWIDE256KL",
@@ -194,14 +253,18 @@ static unsigned long numbers[CALL_KINDS][NUMBERS], events[EVENT_COUNT], uses[USE
 static unsigned long sizes[FORMS][2], sized_shapes[SHAPES][2]; /* forms without 67 and with it; operands behind 67 */
 static unsigned long probed_exceptions[PROBED_COUNT][2], leaves[F_ALL + 1][2]; /* of leaf 0x19 by features and CR4.KL */
 static unsigned long takens[STATES][2]; /* of any record, and in a list */
-static unsigned long spoiled_alone[SPOILS_MOST], spoiled_first[SPOILS_MOST], orders[NUMBERS][NUMBERS];
+static unsigned long spoiled_alone[SPOILS_MOST], spoiled_first[SPOILS_MOST];
+static unsigned long orders[2][NUMBERS][NUMBERS]; /* of all calls, and of counter calls */
+static unsigned long ctr_sizes[2][2], ctr_origins[ORIGINS][2]; /* by ZF */
+static unsigned long ctr_edges[EDGES][2], ctr_carries[CARRIES][2]; /* opened, by the wide bit */
+static unsigned long laws[LAW_COUNT][2];
 
 /* Which refusals a kind of call meets ("a check that a call has no operand for is skipped"). */
 static bool meets(enum call_kind kind, unsigned number)
 {
     switch (kind) {
     case STEP:
-        return number != R2_CODE;
+        return number <= R14_PF && number != R2_CODE;
     case READ:
     case WRITE:
         return number <= R1_MACHINE || number == R3_PROCESSOR || number == R5_CPU || number == R12_GP;
@@ -210,18 +273,23 @@ static bool meets(enum call_kind kind, unsigned number)
         return number <= R2_CODE;
     case CPUID:
         return number <= R1_MACHINE || number == R4_CPU_LENGTH || number == R5_CPU;
+    case CTR:
+        return number <= R1_MACHINE || (number >= R3_PROCESSOR && number <= R5_CPU) || number == R18_SIZE || number == R10_UD || number == R11_NM;
     default:
         return number <= R1_MACHINE;
     }
 }
 
-/* Two refusals that one call can meet and that can be told apart by their order. No call meets both 2 and a later one; what cuts a string may cut
- * the byte of 8 away; a handle is in one segment. */
-static bool has_order(unsigned low, unsigned high)
+/* Two refusals, by their places in the checking order, that one call can meet and that can be told apart by their order. No call meets both 2 and a
+ * later one, and none but a counter call 18; what cuts a string may cut the byte of 8 away; a handle is in one segment. */
+static bool has_order(bool counters, unsigned first, unsigned second)
 {
-    if (low == 0 || low >= high || low == R2_CODE || (high == R2_CODE && low != R1_MACHINE))
+    uint32_t before = checking_order[first], behind = checking_order[second];
+    if (first >= second || before == R2_CODE || (behind == R2_CODE && before != R1_MACHINE))
         return false;
-    return !(low == R8_BYTE && high == R9_STRING_ENDS) && !(low == R12_GP && high == R13_SS);
+    if (counters || before == R18_SIZE || behind == R18_SIZE)
+        return meets(CTR, before) && meets(CTR, behind);
+    return !(before == R8_BYTE && behind == R9_STRING_ENDS) && !(before == R12_GP && behind == R13_SS);
 }
 
 static void note(bool occurred, enum event event)
@@ -465,6 +533,7 @@ void cover_listed(const struct trial *t, const struct run *library)
         return;
     takens[state_of(before)][1] += t->call.kind == TAKEN;
     note(is_idle(&t->call), EVENT_IDLE_LISTED);
+    note(t->call.kind == CTR, EVENT_CTR_LISTED);
     if (!before->pending || !before->consumed)
         return;
     note(t->call.kind == TAKEN, EVENT_TAKEN_AGAIN);
@@ -491,6 +560,77 @@ static void cover_platform(const struct trial *t, const struct machine *before)
     }
     note(t->call.kind == RESET && before->backup.present, EVENT_RESET_BACKUP);
     note(t->call.kind != STEP && lacks_registers(before), EVENT_PLATFORM_NO_FEATURES);
+}
+
+/* on the way from the first block's counter to the last block's */
+static bool carries_out_of(int byte, const uint8_t counter[COUNTER_SIZE], size_t blocks)
+{
+    uint64_t carry = blocks - 1;
+    for (int at = COUNTER_SIZE - 1; at >= byte && blocks; at--)
+        carry = (carry + counter[at]) >> 8;
+    return blocks && carry;
+}
+
+static void cover_opened_ctr(const struct trial *t, const struct cpu *cpu, bool wide)
+{
+    uint8_t restrictions = t->call.handle.bytes[0];
+    note(restrictions & 4, EVENT_CTR_NO_DECRYPTION);
+    note(restrictions & 1, EVENT_CTR_CPL_0);
+    note(cpu->cpl == 3, EVENT_CTR_CPL_3);
+    for (int i = 0; i < EDGES; i++)
+        ctr_edges[i][wide] += t->call.data.length == edges[i].length;
+    for (int i = 0; i < CARRIES; i++)
+        ctr_carries[i][wide] += carries_out_of(carries_out[i].byte, t->call.counter.bytes, (t->call.data.length + 15) / 16);
+}
+
+/* Why the handle did not open, where there is one reason alone. A fitting one was encoded under the IWKey. */
+static void cover_unopened_ctr(const struct trial *t, const struct cpu *cpu)
+{
+    const uint8_t *aad = t->call.handle.bytes;
+    unsigned type = aad[3] & 15, longer = t->call.handle.length == HANDLE_MOST;
+    bool fitting = t->origin == HANDLE_FITTING, cpl_0_only = aad[0] & 1 && cpu->cpl, no_encryption = aad[0] & 2;
+    bool other_type = type != longer, reserved = t->origin == HANDLE_RESERVED_BIT;
+    note(reserved && !other_type, EVENT_CTR_RESERVED);
+    note(t->origin == HANDLE_WRONG_TYPE && other_type, type < 2 ? EVENT_CTR_OTHER_TYPE : EVENT_CTR_UNKNOWN_TYPE);
+    note(fitting && !other_type && cpl_0_only && !no_encryption, EVENT_CTR_CPL_0_ONLY);
+    note(fitting && !other_type && !cpl_0_only && no_encryption, EVENT_CTR_NO_ENCRYPTION);
+    note(t->origin == HANDLE_TAG_ONLY && !other_type, EVENT_CTR_TAG);
+    note(fitting && other_type && !cpl_0_only && !no_encryption, longer ? EVENT_CTR_GROWN : EVENT_CTR_CUT);
+}
+
+static void cover_ctr(const struct trial *t, const struct run *library, uint8_t features)
+{
+    const uint64_t six = CF | PF | AF | ZF | SF | OF;
+    const struct cpu *before = (const struct cpu *)t->call.cpu.bytes, *after = (const struct cpu *)library->call.cpu.bytes;
+    bool failed = load64(after->rflags) & ZF, empty = t->call.data.length == 0;
+    ctr_sizes[t->call.handle.length == HANDLE_MOST][failed]++;
+    ctr_origins[t->origin][failed]++;
+    note((load64(before->rflags) & six) == six, failed ? EVENT_CTR_FLAGS_1 : EVENT_CTR_FLAGS_0);
+    note(empty, failed ? EVENT_CTR_EMPTY_1 : EVENT_CTR_EMPTY_0);
+    note(empty, t->null_if_empty ? EVENT_CTR_NULL : EVENT_CTR_NOT_NULL);
+    if (failed)
+        cover_unopened_ctr(t, before);
+    else
+        cover_opened_ctr(t, before, features & F_WIDE);
+}
+
+static void cover_refused_size(const struct trial *t)
+{
+    size_t handle = t->call.handle.length, counter = t->call.counter.length;
+    note(t->call.data.length == BUFFER_LIMIT + 1, EVENT_CTR_65537);
+    note(handle == 0, EVENT_CTR_HANDLE_0);
+    note(handle == 47, EVENT_CTR_HANDLE_47);
+    note(handle == 49, EVENT_CTR_HANDLE_49);
+    note(handle == 63, EVENT_CTR_HANDLE_63);
+    note(handle == 65, EVENT_CTR_HANDLE_65);
+    note(counter == 0, EVENT_CTR_COUNTER_0);
+    note(counter == 15, EVENT_CTR_COUNTER_15);
+    note(counter == 17, EVENT_CTR_COUNTER_17);
+}
+
+void cover_law(enum ctr_law law, bool longer)
+{
+    laws[law][longer]++;
 }
 
 static void cover_leaf(const struct trial *t, uint8_t features)
@@ -522,7 +662,8 @@ void cover_probe(enum probed probed, bool foretold)
 
 static void cover_order(enum call_kind kind, uint32_t low, uint32_t high)
 {
-    orders[low][high]++;
+    orders[0][low][high]++;
+    orders[1][low][high] += kind == CTR;
     note(kind == CPUID && low == R1_MACHINE && high == R4_CPU_LENGTH, EVENT_CPUID_1_4);
     note(kind == CPUID && low == R1_MACHINE && high == R5_CPU, EVENT_CPUID_1_5);
     note(kind == CPUID && low == R4_CPU_LENGTH && high == R5_CPU, EVENT_CPUID_4_5);
@@ -541,7 +682,8 @@ static void note_empty(const struct trial *t)
 {
     const struct call *c = &t->call;
     bool empty = t->machine.length == 0 || (c->kind == STEP && (!c->cpu.length || !c->memory.length || !c->random.length || !c->string.length)) ||
-                 (c->kind == CPUID && !c->cpu.length);
+                 (c->kind == CPUID && !c->cpu.length) ||
+                 (c->kind == CTR && (!c->cpu.length || !c->handle.length || !c->counter.length || !c->data.length));
     note(empty && t->null_if_empty, EVENT_NULL_POINTER);
     note(empty && !t->null_if_empty, EVENT_EMPTY_BUFFER);
 }
@@ -557,6 +699,8 @@ void cover_call(const struct trial *t, const struct run *library)
         cover_step(t, library);
     if (t->call.kind == CPUID && library->number == R4_CPU_LENGTH)
         cover_refused_cpuid(t);
+    if (library->number == R18_SIZE)
+        cover_refused_size(t);
     if (library->number)
         return;
     if (t->call.kind == POWER_ON)
@@ -567,6 +711,8 @@ void cover_call(const struct trial *t, const struct run *library)
         cover_write(t, before, after);
     else if (t->call.kind == CPUID)
         cover_leaf(t, before->features);
+    else if (t->call.kind == CTR)
+        cover_ctr(t, library, before->features);
     else if (t->call.kind == TAKEN)
         cover_taken(before);
     else
@@ -577,13 +723,14 @@ void cover_judged(const struct history *history, const struct trial *t, const st
 {
     const struct encode *encode = judged->encode;
     bool slept = encode->call < history->last_sleep;
-    note(judged->size && judged->privilege && judged->direction, EVENT_SAME_NAME_ALLOWED);
-    note(!judged->size, EVENT_SAME_NAME_SIZE);
-    note(judged->size && !judged->privilege && judged->direction, EVENT_SAME_NAME_PRIVILEGE);
-    note(judged->size && judged->privilege && !judged->direction, EVENT_SAME_NAME_DIRECTION);
-    note(encode->processor != t->call.processor, EVENT_SAME_NAME_PROCESSOR);
-    note(slept && encode->name != 0, EVENT_SAME_NAME_SLEPT);
-    note(slept && encode->name == 0, EVENT_NAME_0_AGAIN);
+    int further = t->call.kind == CTR ? EVENT_CTR_NAME_ALLOWED - EVENT_SAME_NAME_ALLOWED : 0;
+    note(judged->size && judged->privilege && judged->direction, EVENT_SAME_NAME_ALLOWED + further);
+    note(!judged->size, EVENT_SAME_NAME_SIZE + further);
+    note(judged->size && !judged->privilege && judged->direction, EVENT_SAME_NAME_PRIVILEGE + further);
+    note(judged->size && judged->privilege && !judged->direction, EVENT_SAME_NAME_DIRECTION + further);
+    note(encode->processor != t->call.processor, EVENT_SAME_NAME_PROCESSOR + further);
+    note(slept && encode->name != 0, EVENT_SAME_NAME_SLEPT + further);
+    note(slept && encode->name == 0, EVENT_SAME_NAME_0 + further);
 }
 
 static void print_pairs(const char *title, const char *first, const char *second, const char *const *texts, unsigned long (*pairs)[2], int count)
@@ -595,32 +742,32 @@ static void print_pairs(const char *title, const char *first, const char *second
 
 static void print_numbers(void)
 {
-    printf("\nanswers   ");
-    for (int number = 0; number < NUMBERS; number++)
-        printf("%7d", number);
+    printf("\nanswers   %7d", DONE);
+    for (int i = 0; i < REFUSALS; i++)
+        printf("%7u", checking_order[i]);
     for (int kind = 0; kind < CALL_KINDS; kind++) {
-        printf("\n%-10s", call_names[kind]);
-        for (unsigned number = 0; number < NUMBERS; number++)
-            if (meets((enum call_kind)kind, number))
-                printf("%7lu", numbers[kind][number]);
+        printf("\n%-10s%7lu", call_names[kind], numbers[kind][DONE]);
+        for (int i = 0; i < REFUSALS; i++)
+            if (meets((enum call_kind)kind, checking_order[i]))
+                printf("%7lu", numbers[kind][checking_order[i]]);
             else
                 printf("%7s", "-");
     }
     printf("\n");
 }
 
-static void print_orders(void)
+static void print_orders(const char *title, bool counters)
 {
-    printf("\ntwo refusals: the row's came before the column's\n          ");
-    for (int high = 2; high < NUMBERS; high++)
-        printf("%7d", high);
-    for (unsigned low = 1; low < NUMBERS - 1; low++) {
-        printf("\n%-10u", low);
-        for (unsigned high = 2; high < NUMBERS; high++)
-            if (has_order(low, high))
-                printf("%7lu", orders[low][high]);
+    printf("\n%s: the row's came before the column's\n          ", title);
+    for (int i = 1; i < REFUSALS; i++)
+        printf("%7u", checking_order[i]);
+    for (unsigned first = 0; first < REFUSALS - 1; first++) {
+        printf("\n%-10u", checking_order[first]);
+        for (unsigned second = 1; second < REFUSALS; second++)
+            if (has_order(counters, first, second))
+                printf("%7lu", orders[counters][checking_order[first]][checking_order[second]]);
             else
-                printf("%7s", low < high ? "-" : "");
+                printf("%7s", first < second ? "-" : "");
     }
     printf("\n");
 }
@@ -651,10 +798,25 @@ static void print_takens(void)
     printf("  %-54s %10lu\n", "the rarest of all 64 states", least);
 }
 
+static void print_ctr(void)
+{
+    const char *edge_texts[EDGES], *carry_texts[CARRIES];
+    for (int i = 0; i < EDGES; i++)
+        edge_texts[i] = edges[i].text;
+    for (int i = 0; i < CARRIES; i++)
+        carry_texts[i] = carries_out[i].text;
+    print_pairs("counter calls by the handle's size", "ZF 0", "ZF 1", size_texts, ctr_sizes, 2);
+    print_pairs("counter calls with handles", "ZF 0", "ZF 1", origin_texts, ctr_origins, ORIGINS);
+    print_pairs("counter calls opened, over", "wide off", "wide on", edge_texts, ctr_edges, EDGES);
+    print_pairs("counter calls opened, carrying out of", "wide off", "wide on", carry_texts, ctr_carries, CARRIES);
+    print_pairs("counter calls as the library itself has them", "48 bytes", "64 bytes", law_texts, laws, LAW_COUNT);
+}
+
 void print_coverage(void)
 {
     print_numbers();
-    print_orders();
+    print_orders("two refusals", false);
+    print_orders("two refusals of counter calls", true);
     print_pairs("uses", "ZF 0", "ZF 1", form_texts, uses, USE_FORMS);
     print_pairs("uses of handles", "ZF 0", "ZF 1", origin_texts, origins, ORIGINS);
     print_pairs("uses by operand", "ZF 0", "ZF 1", shape_texts, shapes, SHAPES);
@@ -664,6 +826,7 @@ void print_coverage(void)
     print_leaves("CPUID leaf 0x19 without the feature", 0);
     print_leaves("CPUID leaf 0x19 with the feature", 1);
     print_takens();
+    print_ctr();
     printf("\n%-56s %10s %10s\n", "reasons of refusals", "alone", "first of 2");
     for (int i = 0; i < spoil_count; i++)
         printf("  %2u %-51s %10lu %10lu\n", spoils[i].number, spoils[i].reason, spoiled_alone[i], spoiled_first[i]);
@@ -677,6 +840,12 @@ static bool need(unsigned long count, const char *what, const char *text)
     if (count == 0)
         printf("never occurred: %s: %s\n", what, text);
     return count != 0;
+}
+
+/* an origin whose handles do not open */
+static bool is_damaged(int origin)
+{
+    return origin != HANDLE_FITTING && origin != HANDLE_COUNTER_WRAPS;
 }
 
 /* every combination of features, with CR4.KL off and on */
@@ -713,25 +882,55 @@ static bool takens_are_full(void)
     return full && !in_lists;
 }
 
-bool coverage_is_full(void)
+static bool orders_are_full(bool counters)
 {
-    bool full = leaves_are_full() & takens_are_full();
+    bool full = true;
+    for (unsigned first = 0; first < REFUSALS; first++)
+        for (unsigned second = 0; second < REFUSALS; second++) {
+            char text[32];
+            uint32_t before = checking_order[first], behind = checking_order[second];
+            snprintf(text, sizeof text, "%u before %u", before, behind);
+            full &= !has_order(counters, first, second) || need(orders[counters][before][behind], counters ? "order of a counter call" : "order", text);
+        }
+    return full;
+}
+
+static bool numbers_are_full(void)
+{
+    bool full = true;
     for (int kind = 0; kind < CALL_KINDS; kind++)
         for (unsigned number = 0; number < NUMBERS; number++) {
             char text[32];
             snprintf(text, sizeof text, "%s %u", call_names[kind], number);
             full &= !meets((enum call_kind)kind, number) || need(numbers[kind][number], "answer", text);
         }
-    for (unsigned low = 1; low < NUMBERS; low++)
-        for (unsigned high = 1; high < NUMBERS; high++) {
-            char text[32];
-            snprintf(text, sizeof text, "%u before %u", low, high);
-            full &= !has_order(low, high) || need(orders[low][high], "order", text);
-        }
+    return full;
+}
+
+/* Each size and origin with its ZF; each edge and carry, and each law, both ways. */
+static bool ctr_is_full(void)
+{
+    bool full = true;
+    for (int i = 0; i < 2; i++)
+        full &= need(ctr_sizes[i][0], "counter call, ZF 0", size_texts[i]) && need(ctr_sizes[i][1], "counter call, ZF 1", size_texts[i]);
+    for (int i = 0; i < ORIGINS; i++)
+        full &= need(ctr_origins[i][is_damaged(i)], "counter call, handles", origin_texts[i]);
+    for (int i = 0; i < EDGES; i++)
+        full &= need(ctr_edges[i][0], "wide off", edges[i].text) && need(ctr_edges[i][1], "wide on", edges[i].text);
+    for (int i = 0; i < CARRIES; i++)
+        full &= need(ctr_carries[i][0], "wide off, carry", carries_out[i].text) && need(ctr_carries[i][1], "wide on, carry", carries_out[i].text);
+    for (int i = 0; i < LAW_COUNT; i++)
+        full &= need(laws[i][0], "48 bytes", law_texts[i]) && need(laws[i][1], "64 bytes", law_texts[i]);
+    return full;
+}
+
+bool coverage_is_full(void)
+{
+    bool full = leaves_are_full() & takens_are_full() & numbers_are_full() & orders_are_full(false) & orders_are_full(true) & ctr_is_full();
     for (int i = 0; i < USE_FORMS; i++)
         full &= need(uses[i][0], "ZF 0", form_texts[i]) && need(uses[i][1], "ZF 1", form_texts[i]);
     for (int i = 0; i < ORIGINS; i++)
-        full &= need(origins[i][i != HANDLE_FITTING && i != HANDLE_COUNTER_WRAPS], "handles", origin_texts[i]);
+        full &= need(origins[i][is_damaged(i)], "handles", origin_texts[i]);
     for (int i = 0; i < SHAPES; i++)
         full &= need(shapes[i][0], "ZF 0 with operand", shape_texts[i]) && need(sized_shapes[i][0], "ZF 0 with 67 and operand", shape_texts[i]);
     for (int i = 0; i < FORMS; i++)

@@ -100,6 +100,21 @@
     X(IDLE_EM, "idle step: #UD under CR0.EM")                                                          \
     X(IDLE_TS, "idle step: #NM under CR0.TS")                                                          \
     X(IDLE_AT_CPL_0, "idle step: #GP(0) at CPL above 0")                                               \
+    X(CTR_SIZE_BEFORE_CPU, "counter call: 18 before 4")                                                \
+    X(CTR_SIZE_BEFORE_FIELDS, "counter call: 18 before 5")                                             \
+    X(CTR_SIZE_BEHIND_UD, "counter call: 18 behind 10")                                                \
+    X(CTR_SIZE_BEHIND_NM, "counter call: 18 behind 11")                                                \
+    X(CTR_65536_REFUSED, "counter call: a buffer of 65,536 bytes is refused")                          \
+    X(CTR_65537_TAKEN, "counter call: a buffer of 65,537 bytes is taken")                              \
+    X(CTR_WHOLE_BLOCKS, "counter call: a buffer that ends inside a block is refused")                  \
+    X(CTR_EMPTY_REFUSED, "counter call: an empty buffer is refused")                                   \
+    X(CTR_HANDLE_BETWEEN, "counter call: a handle between 48 and 64 bytes is taken")                   \
+    X(CTR_HANDLE_LONGER, "counter call: a handle of more than 64 bytes is taken")                      \
+    X(CTR_COUNTER_LONGER, "counter call: a counter block of more than 16 bytes is taken")              \
+    X(CTR_WIDE_ASKED, "counter call: #UD without the wide bit")                                        \
+    X(CTR_FIRMWARE_OFF, "counter call: the firmware bit is not needed")                                \
+    X(CTR_NM_BEFORE_UD, "counter call: #NM is tested before #UD")                                      \
+    X(CTR_TS_IGNORED, "counter call: CR0.TS is not looked at")                                         \
     /* instructions */                                                                                 \
     X(RIP_ONLY, "instructions advance RIP and do no more")                                             \
     X(RIP_STAYS_ON_FAILURE, "RIP stays where a handle does not open")                                  \
@@ -127,6 +142,37 @@
     X(IDLE_CLEARS_FLAGS, "an idle step clears the six flags")                                          \
     X(IDLE_SETS_ZF, "an idle step sets ZF")                                                            \
     X(IDLE_CLEARS_STATUS, "an idle step clears the copy status")                                       \
+    /* counter calls */                                                                                \
+    X(CTR_LITTLE_ENDIAN, "counter call: the counter is little-endian")                                 \
+    X(CTR_FROM_1, "counter call: the first block takes the counter block plus 1")                      \
+    X(CTR_CARRY_12, "counter call: the last four bytes alone count")                                   \
+    X(CTR_CARRY_8, "counter call: the last eight bytes alone count")                                   \
+    X(CTR_CARRY_1, "counter call: the first byte does not count")                                      \
+    X(CTR_STOPS_AT_END, "counter call: the counter stays at 2^128 - 1")                                \
+    X(CTR_PAIRS_ALIKE, "counter call: two blocks take one counter")                                    \
+    X(CTR_LAST_BYTES, "counter call: a short end takes the last bytes of its keystream")               \
+    X(CTR_NO_SHORT_END, "counter call: a short end is left as it is")                                  \
+    X(CTR_SEVEN_OF_EIGHT, "counter call: the last of each eight blocks is left as it is")              \
+    X(CTR_LAST_OF_LONGEST, "counter call: the last block of 65,536 bytes is left as it is")            \
+    X(CTR_DECRYPTS, "counter call: the counters are decrypted")                                        \
+    X(CTR_NOT_ENCRYPTED, "counter call: the counters themselves are XORed")                            \
+    X(CTR_STREAM_ALONE, "counter call: the keystream replaces the data")                               \
+    X(CTR_TYPE_PICKS_SIZE, "counter call: the key type in the AAD picks the key's size")               \
+    X(CTR_JUDGED_DECRYPTING, "counter call: no decryption forbids, no encryption does not")            \
+    X(CTR_ANY_CPL, "counter call: CPL 0 only is not looked at")                                        \
+    X(CTR_PROCESSOR_0, "counter call: the IWKey of processor 0 is taken")                              \
+    X(CTR_EMPTY_UNOPENED, "counter call: the handle of an empty buffer is not opened")                 \
+    X(CTR_NO_FLAGS_WHEN_EMPTY, "counter call: an empty buffer leaves the flags")                       \
+    X(CTR_ALWAYS_ZF_0, "counter call: ZF 0 where the handle does not open")                            \
+    X(CTR_ZEROES, "counter call: data whose handle does not open is zeroed")                           \
+    X(CTR_FLAGS_KEPT, "counter call: the five other flags are kept")                                   \
+    X(CTR_MOVES_RIP, "counter call: RIP moves")                                                        \
+    X(CTR_XMM0, "counter call: XMM0 is written")                                                       \
+    X(CTR_CLEARS_STATUS, "counter call: the copy status is cleared")                                   \
+    X(LAW_WIDE, "counter call: the wide bit changes the eighth block")                                 \
+    X(LAW_SINGLY, "counter call: the ninth block is not that of the single form")                      \
+    X(LAW_TWICE, "counter call: twice does not give the data back")                                    \
+    X(LAW_IN_PARTS, "counter call: a second part takes another counter")                               \
     /* backup, sleep, reset */                                                                         \
     X(COPY_OUT_NO_BACKUP, "copies out although NoBackup is set")                                       \
     X(COPY_OUT_PENDING, "copies out although a backup is pending")                                     \
@@ -213,6 +259,9 @@
     X(HISTORY_TAKEN_SETTLES, "history: taken ends pending")                                            \
     X(HISTORY_IDLE, "history: an idle step is no call of the list")                                    \
     X(HISTORY_IDLE_LOADS, "history: an idle step makes a name")                                        \
+    X(HISTORY_CTR, "history: a counter call is no call of the list")                                   \
+    X(HISTORY_CTR_DECRYPTS, "history: a counter call is judged as a decryption")                       \
+    X(HISTORY_CTR_KEEPS, "history: a counter call leaves the data")                                    \
     /* keyrings */                                                                                     \
     X(KEYRING_SIZE_0, "keyring: one of no bytes is taken")                                             \
     X(KEYRING_SIZE_UNEVEN, "keyring: bytes behind the last whole record are taken")                    \
@@ -271,6 +320,9 @@
     X(REFUSED_WRITES_EDX, "a refused CPUID writes EDX")                                                \
     X(CPUID_WRITES_MACHINE, "CPUID writes the machine")                                                \
     X(TAKEN_REFUSED_WRITES, "a refused taken writes consumed")                                         \
+    X(CTR_REFUSED_WRITES, "a refused counter call writes the data")                                    \
+    X(CTR_COUNTER_WRITTEN, "a counter block is written")                                               \
+    X(CTR_HANDLE_WRITTEN, "the handle of a counter call is written")                                   \
     X(KEYRING_REFUSED_WRITES, "a refused call writes the keyring")                                     \
     X(KEYRING_REFUSED_WRITES_KIND, "a refused lookup writes the kind")                                 \
     X(KEYRING_REFUSED_WRITES_HANDLE, "a refused lookup writes the handle")                             \
@@ -287,7 +339,10 @@
     X(BEHIND_CPUID, "a byte behind the CPU record is read by CPUID")                                   \
     X(BEHIND_KEYRING, "a byte behind the keyring is read")                                             \
     X(BEHIND_LABEL, "a byte behind the label is read")                                                 \
-    X(BEHIND_ADDED, "a byte behind the handle that is added is read")
+    X(BEHIND_ADDED, "a byte behind the handle that is added is read")                                  \
+    X(BEHIND_HANDLE, "a byte behind the handle of a counter call is read")                             \
+    X(BEHIND_COUNTER, "a byte behind a counter block is read")                                         \
+    X(BEHIND_DATA, "a byte behind the data of a counter call is read")
 
 enum fault {
     FAULT_NONE,

@@ -269,6 +269,66 @@ static void choose_step(const struct world *world, struct trial *t)
     t->meant = 0;
 }
 
+/* ---- counter calls ---- */
+
+/* lengths around whole blocks and whole groups of eight; one of the longest now and then, since they take long */
+static size_t some_data_length(void)
+{
+    static const size_t edges[] = {0, 0, 1, 15, 16, 17, 127, 128, 129};
+    if (one_in(150))
+        return BUFFER_LIMIT - below(2);
+    return one_in(2) ? edges[below(sizeof edges / sizeof *edges)] : below(one_in(8) ? 2000 : 300);
+}
+
+/* often such that a few blocks on it carries out of byte 15, 12, 8 or 0: all bytes from that one on are FF, the last a little less */
+static void choose_counter(struct trial *t)
+{
+    static const unsigned carrying[] = {15, 12, 8, 0, 14, 11, 7, 1};
+    any_bytes(t->counter_room, COUNTER_ROOM);
+    if (!one_in(3)) {
+        unsigned from = carrying[below(one_in(4) ? 8 : 4)];
+        memset(t->counter_room + from, 0xFF, COUNTER_SIZE - from);
+        t->counter_room[15] = (uint8_t)(t->counter_room[15] - below(12));
+    }
+    t->call.counter.length = COUNTER_SIZE;
+}
+
+/* seldom of the other size: cut, or with bytes behind it */
+static void choose_lent_handle(const struct world *world, struct trial *t)
+{
+    struct known_handle handle;
+    choose_handle(world, t, &handle);
+    any_bytes(t->handle_room, LENT_HANDLE_ROOM);
+    memcpy(t->handle_room, handle.bytes, handle.length);
+    t->call.handle.length = one_in(12) ? 48 + 64 - handle.length : handle.length;
+}
+
+/* Many on a copy: the same machine without the wide bit, the few long ones as often as with it, or one with any features. */
+static void choose_ctr_features(struct trial *t)
+{
+    if (one_in(6)) {
+        choose_features(t);
+    } else if (one_in(t->call.data.length > BUFFER_LIMIT / 2 ? 2 : 3)) {
+        t->carried = false;
+        trial_machine(t)->features ^= F_WIDE;
+    }
+}
+
+static void choose_ctr(const struct world *world, struct trial *t)
+{
+    t->call.kind = CTR;
+    choose_record(t);
+    if (one_in(2))
+        trial_cpu(t)->cpl = 0;
+    t->call.processor = some_loaded_processor(trial_machine(t));
+    choose_lent_handle(world, t);
+    choose_counter(t);
+    t->call.data.length = some_data_length();
+    any_bytes(t->data_room, t->call.data.length);
+    choose_ctr_features(t);
+    t->meant = 0;
+}
+
 /* ---- CPUID ---- */
 
 /* mostly the two that have bits; others that agree with them in some bytes, or are next to them */
@@ -354,6 +414,14 @@ static void mutate_string(struct trial *t)
     }
 }
 
+/* sizes of a counter call, of which only the model knows whether they are right */
+static void mutate_sizes(struct trial *t)
+{
+    static const size_t handles[] = {0, 16, 32, 47, 48, 49, 63, 64, 65, 80};
+    t->call.handle.length = handles[below(sizeof handles / sizeof *handles)];
+    t->call.counter.length = one_in(3) ? below(COUNTER_ROOM) : COUNTER_SIZE;
+}
+
 /* numbers without care for what they mean */
 static void mutate_numbers(struct trial *t)
 {
@@ -367,7 +435,7 @@ static void mutate_numbers(struct trial *t)
     t->call.value = one_in(2) ? below(3) : UINT64_C(1) << below(64);
     t->call.leaf ^= one_in(2) ? 0 : UINT32_C(1) << below(32);
     t->call.subleaf = one_in(2) ? 0 : UINT32_C(1) << below(32);
-    if (t->call.kind == STEP || t->call.kind == CPUID) {
+    if (t->call.kind == STEP || t->call.kind == CPUID || t->call.kind == CTR) {
         cpu->control = (uint8_t)below(one_in(2) ? 16 : 32);
         cpu->cpl = (uint8_t)below(5);
         store64(cpu->registers[below(16)], interesting64());
@@ -380,6 +448,8 @@ static void mutate(struct trial *t)
     t->meant_string = false;
     if (t->call.kind == STEP && !one_in(3))
         mutate_string(t);
+    else if (t->call.kind == CTR && one_in(2))
+        mutate_sizes(t);
     else
         mutate_numbers(t);
 }
@@ -387,8 +457,10 @@ static void mutate(struct trial *t)
 static void choose_call(const struct world *world, struct trial *t)
 {
     unsigned choice = (unsigned)below(1000);
-    if (choice < 570)
+    if (choice < 520)
         choose_step(world, t);
+    else if (choice < 580)
+        choose_ctr(world, t);
     else if (choice < 630)
         choose_cpuid(t);
     else if (choice < 800)
@@ -413,6 +485,9 @@ static void begin(const struct world *world, struct trial *t)
     memcpy(t->machine_room, &world->machines[t->machine_number].machine, sizeof(struct machine));
     t->machine = (struct buffer){t->machine_room, sizeof(struct machine)};
     t->call = (struct call){.cpu = {t->cpu_room, 0}, .memory = {t->memory_room, 0}, .random = {t->random_room, 0}, .string = {t->string_room, 0}};
+    t->call.handle = (struct buffer){t->handle_room, 0};
+    t->call.counter = (struct buffer){t->counter_room, 0};
+    t->call.data = (struct buffer){t->data_room, 0};
     t->null_if_empty = one_in(2);
     t->carried = true;
     t->made = t->meant_string = false;
@@ -420,10 +495,12 @@ static void begin(const struct world *world, struct trial *t)
     any_bytes(t->leaf_before, sizeof t->leaf_before);
 }
 
-/* neither CPUID's number nor that of an idle step depends on the features */
-static bool needs_features(const struct trial *t)
+/* neither CPUID's number nor that of an idle step depends on the features, that of a counter call on two of them */
+static uint8_t needed_features(const struct trial *t)
 {
-    return t->call.kind != POWER_ON && t->call.kind != CPUID && !is_idle(&t->call);
+    if (t->call.kind == POWER_ON || t->call.kind == CPUID || is_idle(&t->call))
+        return 0;
+    return t->call.kind == CTR ? F_KL | F_FIRMWARE : F_ALL;
 }
 
 void generate(const struct world *world, struct trial *t)
@@ -440,7 +517,7 @@ void generate(const struct world *world, struct trial *t)
     choose_call(world, t);
     if (t->call.kind == POWER_ON && t->machine_number % 2 == 0)
         t->carried = false;
-    if (needs_features(t) && trial_machine(t)->features != F_ALL)
+    if (needed_features(t) & ~trial_machine(t)->features)
         t->meant = ANY_NUMBER;
     if (one_in(14))
         mutate(t);

@@ -4,6 +4,7 @@
 #include <string.h>
 
 #include "aes.h"
+#include "ctr.h"
 #include "faults.h"
 #include "machine.h"
 #include "refusals.h"
@@ -204,6 +205,11 @@ static struct judged judge(const struct encode *encode, enum form form, uint8_t 
     return judged;
 }
 
+static bool is_allowed(const struct judged *judged)
+{
+    return judged->size && judged->privilege && judged->direction;
+}
+
 const char *history_use_differs(const struct history *history, const struct call *call, const struct instruction *instruction,
                                 const struct cpu *after, struct judged *judged)
 {
@@ -216,7 +222,7 @@ const char *history_use_differs(const struct history *history, const struct call
     if (!encode)
         return NULL;
     *judged = judge(encode, form, cpu.cpl);
-    bool allowed = judged->size && judged->privilege && judged->direction;
+    bool allowed = is_allowed(judged);
     if (allowed == ((load64(after->rflags) & ZF) != 0))
         return allowed ? "ZF is 1 though size, privilege and direction allow the use" : "ZF is 0 though the use is forbidden";
     for (unsigned i = 0; allowed && i < 16; i++)
@@ -224,5 +230,28 @@ const char *history_use_differs(const struct history *history, const struct call
             (is_decryption(form) ? aes_decrypt : aes_encrypt)(encode->key, encode->key_length, cpu.xmm[i], cpu.xmm[i]);
     if (memcmp(cpu.xmm, after->xmm, sizeof cpu.xmm) != 0)
         return allowed ? "a block is not what AES makes of it under the encoded key" : "a block changed though the use is forbidden";
+    return NULL;
+}
+
+/* of a key that the encode was given; the handle itself is not opened here */
+const char *history_ctr_differs(const struct history *history, const struct call *call, const struct call *after, struct judged *judged)
+{
+    struct cpu cpu;
+    static uint8_t room[BUFFER_LIMIT];
+    struct buffer data = {room, call->data.length};
+    const struct encode *encode = find_encode(history, history->processors[call->processor], call->handle.bytes, call->handle.length);
+    *judged = (struct judged){0};
+    if (!encode)
+        return NULL;
+    memcpy(&cpu, after->cpu.bytes, sizeof cpu);
+    *judged = judge(encode, ctr_form(call) + FAULT(HISTORY_CTR_DECRYPTS), cpu.cpl);
+    bool allowed = is_allowed(judged);
+    if (allowed == ((load64(cpu.rflags) & ZF) != 0))
+        return allowed ? "ZF is 1 though size, privilege and direction allow the counter call" : "ZF is 0 though the counter call is forbidden";
+    memcpy(room, call->data.bytes, data.length);
+    if (allowed && !FAULT(HISTORY_CTR_KEEPS))
+        ctr_xor(encode->key, encode->key_length, call->counter.bytes, data);
+    if (data.length && memcmp(room, after->data.bytes, data.length) != 0)
+        return allowed ? "the data is not what counter mode makes of it under the encoded key" : "the data changed though the counter call is forbidden";
     return NULL;
 }

@@ -39,7 +39,8 @@ struct history {
 void history_power_on(struct history *history, uint8_t count, uint8_t features);
 void history_free(struct history *history);
 
-/* The next call of the list: its refusal by its arguments alone, or 0 and the names have moved. Reads, taken and idle steps move none. */
+/* The next call of the list: its refusal by its arguments alone, or 0 and the names have moved. Reads, taken, idle steps and counter calls
+ * move none. */
 uint32_t history_call(struct history *history, const struct call *call, struct instruction *instruction);
 
 /* After an encode that was not refused: the CPU record before and after. */
@@ -57,5 +58,8 @@ struct judged {
 /* Demand 3's uses: NULL if the use did as its encode says, otherwise what differs. The use was not refused. */
 const char *history_use_differs(const struct history *history, const struct call *call, const struct instruction *instruction,
                                 const struct cpu *after, struct judged *judged);
+
+/* The same of a counter call, which is judged as an encrypting use: what it left in the CPU record and in the data. */
+const char *history_ctr_differs(const struct history *history, const struct call *call, const struct call *after, struct judged *judged);
 
 #endif

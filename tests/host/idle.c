@@ -67,10 +67,7 @@ static bool meets_refusals(struct trial *t)
     bool good = true;
     for (size_t i = 0; i < sizeof steps / sizeof *steps; i++) {
         prepare(t, 0, C_EM | C_TS);
-        t->machine.length = steps[i].machine;
-        t->call.processor = steps[i].processor;
-        t->call.cpu.length = steps[i].cpu;
-        trial_cpu(t)->cpl = steps[i].cpl;
+        lend_worked(t, steps[i].machine, steps[i].processor, steps[i].cpu, steps[i].cpl);
         t->call.memory.length = steps[i].memory;
         t->call.random.length = steps[i].random;
         good &= worked_answers(t, steps[i].number, &(struct wanted){0});

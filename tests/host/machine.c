@@ -4,6 +4,7 @@
 
 #include "aes.h"
 #include "cpuid.h"
+#include "ctr.h"
 #include "faults.h"
 #include "handle.h"
 #include "refusals.h"
@@ -324,6 +325,55 @@ static void identify(const struct machine *m, const struct call *call, uint32_t 
         store64(cpu->rip, load64(cpu->rip) + 2);
 }
 
+/* The size of the handle lent picks the key's; a fault lets the AAD's type shorten it. */
+static enum form opening_form(const struct call *call)
+{
+    bool longer_by_aad = call->handle.bytes[3] & 15;
+    return FAULT(CTR_TYPE_PICKS_SIZE) && !longer_by_aad ? AESENC128KL : ctr_form(call);
+}
+
+/* as AESENC128KL and AESENC256KL open a handle */
+static bool ctr_opens(const struct iwkey *iwkey, const struct cpu *cpu, const struct call *call, uint8_t key[32])
+{
+    const uint8_t *handle = call->handle.bytes;
+    enum form form = opening_form(call), judged = FAULT(CTR_JUDGED_DECRYPTING) ? form + 1 : form;
+    if (FAULT(CTR_EMPTY_UNOPENED) && call->data.length == 0)
+        return true;
+    return legal(handle, judged, FAULT(CTR_ANY_CPL) ? 0 : cpu->cpl) && unwrap(iwkey, handle, key_length(form), key);
+}
+
+/* nothing without a fault: of the CPU record the flags alone change, and of the machine nothing */
+static void write_more(struct machine *m, const struct call *call, struct cpu *cpu)
+{
+    if (FAULT(CTR_MOVES_RIP))
+        store64(cpu->rip, load64(cpu->rip) + 5);
+    if (FAULT(CTR_XMM0))
+        memcpy(cpu->xmm[0], call->counter.bytes, 16);
+    if (FAULT(CTR_CLEARS_STATUS))
+        m->processors[call->processor].copy_status = 0;
+}
+
+static void ctr(struct machine *m, const struct call *call)
+{
+    const struct iwkey *iwkey = &m->processors[FAULT(CTR_PROCESSOR_0) ? 0 : call->processor].iwkey;
+    struct cpu cpu;
+    uint8_t key[32] = {0};
+    memcpy(&cpu, call->cpu.bytes, sizeof cpu);
+    uint64_t before = load64(cpu.rflags);
+    bool opened = ctr_opens(iwkey, &cpu, call, key);
+    set_flags(&cpu, !opened && !FAULT(CTR_ALWAYS_ZF_0));
+    if (FAULT(CTR_FLAGS_KEPT))
+        store64(cpu.rflags, (before & ~(uint64_t)ZF) | (opened ? 0 : ZF));
+    if (FAULT(CTR_NO_FLAGS_WHEN_EMPTY) && call->data.length == 0)
+        store64(cpu.rflags, before);
+    if (opened)
+        ctr_xor(key, key_length(opening_form(call)), call->counter.bytes, call->data);
+    else if (FAULT(CTR_ZEROES) && call->data.length)
+        memset(call->data.bytes, 0, call->data.length);
+    write_more(m, call, &cpu);
+    memcpy(call->cpu.bytes, &cpu, sizeof cpu);
+}
+
 static void perform(struct machine *m, struct call *call, const struct instruction *instruction, const struct results *results)
 {
     switch (call->kind) {
@@ -353,6 +403,9 @@ static void perform(struct machine *m, struct call *call, const struct instructi
         break;
     case CPUID:
         identify(m, call, results->leaf);
+        break;
+    case CTR:
+        ctr(m, call);
         break;
     default:
         reset(m);

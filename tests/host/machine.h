@@ -5,7 +5,8 @@
 #include "decode.h"
 #include "records.h"
 
-/* The whole call, over a lent machine: the number of its refusal, or 0 with the machine, the CPU record and (for a read or CPUID) the results advanced. */
+/* The whole call, over a lent machine: the number of its refusal, or 0 with the machine, the CPU record, (for a read or CPUID) the results
+ * and (for a counter call) the data advanced. */
 uint32_t model_call(struct buffer machine, struct call *call, const struct results *results);
 
 /* The IWKey that LOADIWKEY makes of its registers and random data, neither refused nor "not ready". */

@@ -114,6 +114,20 @@ static const char *step_differs(const struct trial *t, uint32_t number)
     return meets(PROBED_GP_ENCODE, foretells_encode_gp(&p, &cpu, &instruction), number == R12_GP) ? NULL : "#GP of ENCODEKEY is not as CPUID foretells";
 }
 
+/* a counter call that passed 18: #UD as of the single form, so the wide forms need not show */
+static const char *ctr_differs(const struct trial *t, uint32_t number)
+{
+    struct cpu cpu;
+    struct probe p;
+    struct instruction single = {.form = AESENC128KL};
+    if (number != DONE && number != R10_UD && number != R11_NM)
+        return NULL;
+    memcpy(&cpu, t->call.cpu.bytes, sizeof cpu);
+    if (!make_probe(t->machine, &cpu, &p))
+        return "CPUID is refused beside a counter call";
+    return meets(PROBED_UD_CTR, foretells_ud(&p, &cpu, &single), number == R10_UD) ? NULL : "#UD of a counter call is not as CPUID foretells";
+}
+
 /* at CPL 0, an address in its direction, a value without reserved bits: only whether there are such registers is left to ask */
 static bool is_plain(const struct call *call)
 {
@@ -139,6 +153,8 @@ const char *probe_differs(const struct trial *t, const struct run *library)
     switch (t->call.kind) {
     case STEP:
         return step_differs(t, library->number);
+    case CTR:
+        return ctr_differs(t, library->number);
     case READ:
     case WRITE:
         return register_differs(t, library->number);

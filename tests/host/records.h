@@ -7,6 +7,7 @@
 #include <stdint.h>
 
 enum { PROCESSORS = 16, MEMORY_LIMIT = 1048576, RANDOM_SIZE = 48, AAD_SIZE = 16, TAG_SIZE = 16, HANDLE_HEAD = AAD_SIZE + TAG_SIZE, HANDLE_MOST = 64 };
+enum { COUNTER_SIZE = 16, BUFFER_LIMIT = 65536 };
 
 /* feature byte */
 enum { F_KL = 1, F_FIRMWARE = 2, F_WIDE = 4, F_BACKUP = 8, F_NO_BACKUP = 16, F_RANDOM = 32, F_ALL = 63 };
@@ -62,7 +63,7 @@ struct buffer {
     size_t length;
 };
 
-enum call_kind { POWER_ON, STEP, READ, WRITE, SETTLE, SLEEP, RESET, TAKEN, CPUID, CALL_KINDS };
+enum call_kind { POWER_ON, STEP, READ, WRITE, SETTLE, SLEEP, RESET, TAKEN, CPUID, CTR, CALL_KINDS };
 
 /* backup registers */
 enum { COPY_STATUS = 0x990, BACKUP_STATUS = 0x991, COPY_OUT = 0xD91, COPY_IN = 0xD92 };
@@ -71,14 +72,15 @@ enum { COPY_STATUS = 0x990, BACKUP_STATUS = 0x991, COPY_OUT = 0xD91, COPY_IN = 0
 struct call {
     enum call_kind kind;
     uint8_t count, features; /* power-on */
-    uint8_t processor;       /* step, read, write */
+    uint8_t processor;       /* step, read, write, ctr */
     uint8_t cpl;             /* read, write */
     uint32_t address;
     uint64_t value;                       /* write */
     uint8_t code;                         /* settle, sleep */
     uint32_t leaf, subleaf;               /* cpuid */
-    struct buffer cpu;                    /* step, cpuid */
+    struct buffer cpu;                    /* step, cpuid, ctr */
     struct buffer memory, random, string; /* step */
+    struct buffer handle, counter, data;  /* ctr; the data is what it XORs */
 };
 
 /* a step without a string, and so without an instruction */

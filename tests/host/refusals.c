@@ -4,6 +4,9 @@
 
 #include "faults.h"
 
+const uint32_t checking_order[REFUSALS] = {R1_MACHINE, R2_CODE, R3_PROCESSOR,   R4_CPU_LENGTH, R5_CPU, R18_SIZE, R6_MEMORY, R7_RANDOM,
+                                           R8_BYTE,    R9_STRING_ENDS, R10_UD, R11_NM,        R12_GP, R13_SS,   R14_PF};
+
 static bool all_zero(const void *bytes, size_t length)
 {
     for (size_t i = 0; i < length; i++)
@@ -177,8 +180,8 @@ static bool random_refused(const struct call *call)
     return length != 0 && length != RANDOM_SIZE && !(FAULT(RANDOM_LENGTH) && length > RANDOM_SIZE);
 }
 
-/* 3 to 7: what is lent to a step, whatever its string */
-static uint32_t lent_refusal(uint8_t count, const struct call *call)
+/* 3 to 5: processor and CPU record */
+static uint32_t processor_refusal(uint8_t count, const struct call *call)
 {
     struct cpu cpu;
     if (call->processor >= count && !(FAULT(CPU_BEFORE_PROCESSOR) && call->cpu.length != sizeof cpu))
@@ -186,8 +189,15 @@ static uint32_t lent_refusal(uint8_t count, const struct call *call)
     if (call->cpu.length != sizeof cpu)
         return R4_CPU_LENGTH;
     memcpy(&cpu, call->cpu.bytes, sizeof cpu);
-    if (cpu_refused(&cpu))
-        return R5_CPU;
+    return cpu_refused(&cpu) ? R5_CPU : DONE;
+}
+
+/* 3 to 7: what is lent to a step, whatever its string */
+static uint32_t lent_refusal(uint8_t count, const struct call *call)
+{
+    uint32_t refusal = processor_refusal(count, call);
+    if (refusal)
+        return refusal;
     if (call->memory.length > MEMORY_LIMIT + (FAULT(MEMORY_LIMIT) ? 1 : 0))
         return R6_MEMORY;
     return random_refused(call) ? R7_RANDOM : DONE;
@@ -236,6 +246,68 @@ static uint32_t step_refusal(uint8_t count, uint8_t features, const struct call 
     return operand_refusal(features, &cpu, call->memory.length, instruction);
 }
 
+/* 18 of a handle: the 48 bytes of an AES-128 key's or the 64 of an AES-256 key's */
+static bool ctr_handle_refused(size_t length)
+{
+    if ((FAULT(CTR_HANDLE_BETWEEN) && length > 48 && length < 64) || (FAULT(CTR_HANDLE_LONGER) && length > 64))
+        return false;
+    return length != 48 && length != 64;
+}
+
+/* 18 */
+static bool size_refused(const struct call *call)
+{
+    size_t length = call->data.length, counter = call->counter.length;
+    if (length > BUFFER_LIMIT + (FAULT(CTR_65537_TAKEN) ? 1 : 0) || (FAULT(CTR_65536_REFUSED) && length == BUFFER_LIMIT))
+        return true;
+    if ((FAULT(CTR_WHOLE_BLOCKS) && length % 16) || (FAULT(CTR_EMPTY_REFUSED) && length == 0))
+        return true;
+    if (counter != COUNTER_SIZE && !(FAULT(CTR_COUNTER_LONGER) && counter > COUNTER_SIZE))
+        return true;
+    return ctr_handle_refused(call->handle.length);
+}
+
+enum form ctr_form(const struct call *call)
+{
+    return call->handle.length == 48 ? AESENC128KL : AESENC256KL;
+}
+
+/* 10 and 11 as for the single form of the handle's size; the wide bit is not asked */
+static uint32_t ctr_fault(uint8_t features, const struct call *call)
+{
+    struct cpu cpu;
+    struct instruction single = {.form = ctr_form(call)};
+    memcpy(&cpu, call->cpu.bytes, sizeof cpu);
+    if (FAULT(CTR_WIDE_ASKED) && !(features & F_WIDE))
+        return R10_UD;
+    if (FAULT(CTR_FIRMWARE_OFF))
+        features |= F_FIRMWARE;
+    if (FAULT(CTR_NM_BEFORE_UD) && cpu.control & C_TS)
+        return R11_NM;
+    if (undefined(features, &cpu, &single))
+        return R10_UD;
+    if (FAULT(CTR_SIZE_BEHIND_UD) && size_refused(call))
+        return R18_SIZE;
+    return cpu.control & C_TS && !FAULT(CTR_TS_IGNORED) ? R11_NM : DONE;
+}
+
+/* 3 to 5, 18, 10, 11 */
+static uint32_t ctr_refusal(uint8_t count, uint8_t features, const struct call *call)
+{
+    bool processor_good = call->processor < count, early = processor_good && size_refused(call);
+    if (FAULT(CTR_SIZE_BEFORE_CPU) && early)
+        return R18_SIZE;
+    if (FAULT(CTR_SIZE_BEFORE_FIELDS) && early && call->cpu.length == sizeof(struct cpu))
+        return R18_SIZE;
+    uint32_t refusal = processor_refusal(count, call);
+    if (refusal)
+        return refusal;
+    if (size_refused(call) && !FAULT(CTR_SIZE_BEHIND_UD) && !FAULT(CTR_SIZE_BEHIND_NM))
+        return R18_SIZE;
+    refusal = ctr_fault(features, call);
+    return !refusal && size_refused(call) ? R18_SIZE : refusal;
+}
+
 uint32_t call_refusal(uint8_t count, uint8_t features, const struct call *call, struct instruction *instruction)
 {
     switch (call->kind) {
@@ -250,6 +322,8 @@ uint32_t call_refusal(uint8_t count, uint8_t features, const struct call *call, 
         return call->code > (FAULT(WAKE_CODE_3) ? 3 : 2) ? R2_CODE : DONE;
     case CPUID:
         return cpuid_refusal(call->cpu);
+    case CTR:
+        return ctr_refusal(count, features, call);
     default:
         return DONE;
     }

@@ -10,6 +10,8 @@
 #include "chance.h"
 #include "compare.h"
 #include "coverage.h"
+#include "ctr_laws.h"
+#include "ctr_worked.h"
 #include "faults.h"
 #include "generate.h"
 #include "idle.h"
@@ -47,13 +49,29 @@ static bool is_listed(const struct trial *t)
     return t->call.kind != CPUID;
 }
 
+/* Of a use, or of a counter call, whose handle an encode of the list gave; an encode is remembered for them. */
+static const char *outcome_differs(struct history *history, const struct trial *t, const struct run *library, const struct instruction *instruction)
+{
+    const struct cpu *after = (const struct cpu *)library->call.cpu.bytes;
+    const char *differs = NULL;
+    struct judged judged = {0};
+    if (t->call.kind == STEP && is_encode(instruction->form))
+        history_encoded(history, &t->call, instruction, after);
+    if (t->call.kind == STEP && is_use(instruction->form))
+        differs = history_use_differs(history, &t->call, instruction, after, &judged);
+    if (t->call.kind == CTR)
+        differs = history_ctr_differs(history, &t->call, &library->call, &judged);
+    if (judged.encode)
+        cover_judged(history, t, &judged);
+    return differs;
+}
+
 /* Demand 3, for a machine of which all calls since its power-on are known. Names are call numbers, so the history may count no other calls. */
 static const char *history_differs(struct emulated *emulated, const struct trial *t, const struct run *library, struct instruction *instruction)
 {
     struct history *history = &emulated->history;
-    const struct cpu *after = (const struct cpu *)library->call.cpu.bytes;
-    struct judged judged;
-    bool left_out = (FAULT(HISTORY_TAKEN) && t->call.kind == TAKEN) || (FAULT(HISTORY_IDLE) && is_idle(&t->call));
+    bool left_out = (FAULT(HISTORY_TAKEN) && t->call.kind == TAKEN) || (FAULT(HISTORY_IDLE) && is_idle(&t->call)) ||
+                    (FAULT(HISTORY_CTR) && t->call.kind == CTR);
     bool fed = FAULT(HISTORY_CPUID) || (is_listed(t) && !left_out);
     if (fed && history_call(history, &t->call, instruction) != library->number)
         return "history machine: which calls a refusal stops";
@@ -61,16 +79,7 @@ static const char *history_differs(struct emulated *emulated, const struct trial
         return "history machine: how many calls the list has";
     cover_listed(t, library);
     const char *differs = history_keys_differ(history, (const struct machine *)library->machine.bytes);
-    if (differs || library->number || t->call.kind != STEP)
-        return differs;
-    if (is_encode(instruction->form))
-        history_encoded(history, &t->call, instruction, after);
-    if (!is_use(instruction->form))
-        return NULL;
-    differs = history_use_differs(history, &t->call, instruction, after, &judged);
-    if (judged.encode)
-        cover_judged(history, t, &judged);
-    return differs;
+    return differs || library->number ? differs : outcome_differs(history, t, library, instruction);
 }
 
 /* the library's record is the machine's from here on */
@@ -100,6 +109,8 @@ static const char *one_call(struct run *library, struct run *model)
         cover_call(&trial, library);
     if (!differs)
         differs = probe_differs(&trial, library);
+    if (!differs && trial.call.kind == CTR)
+        differs = ctr_law_differs(&trial, library);
     if (!differs && trial.carried)
         differs = carry(&trial, library);
     if (!differs && !library->number && trial.call.kind == STEP && !decode(trial.call.string, &instruction) && is_encode(instruction.form))
@@ -177,10 +188,11 @@ int main(int argc, char **argv)
     aes_start();
     /* a planted fault has to be found by the random calls */
     if (!planted_fault() && (!model_meets_vectors(options.vectors) || !library_meets_lengths() || !library_meets_prefixes() || !library_meets_taken() ||
-                             !library_meets_idle()))
+                             !library_meets_idle() || !library_meets_ctr()))
         return 2;
     trial.memory_room = calloc(1, MEMORY_ROOM);
-    if (!trial.memory_room)
+    trial.data_room = calloc(1, DATA_ROOM);
+    if (!trial.memory_room || !trial.data_room)
         return 2;
     chance_seed(options.seed);
     int status = run(&options);
@@ -189,5 +201,6 @@ int main(int argc, char **argv)
     for (int i = 0; i < MACHINES; i++)
         history_free(&world.machines[i].history);
     free(trial.memory_room);
+    free(trial.data_room);
     return status;
 }

@@ -5,6 +5,7 @@
 #include <string.h>
 
 #include "aes.h"
+#include "ctr.h"
 #include "handle.h"
 
 enum { FIELDS = 8, FIELD_BYTES = 512, LINE = 4096 };
@@ -84,6 +85,14 @@ static bool check_refused(const struct field *f)
     return !unwrap(&iwkey, f[2].bytes, f[2].length - HANDLE_HEAD, key);
 }
 
+/* key, counter block, plaintext, ciphertext */
+static bool check_ctr(const struct field *f)
+{
+    struct field data = f[2];
+    ctr_xor(f[0].bytes, f[0].length, f[1].bytes, (struct buffer){data.bytes, data.length});
+    return equals(&f[3], data.bytes, data.length);
+}
+
 /* the kinds of lines, how many fields they have behind their name, and how many there must be at least, so that no file is empty unnoticed */
 static struct vector_kind {
     const char *file, *word;
@@ -93,7 +102,7 @@ static struct vector_kind {
 } kinds[] = {
     {"fips197.txt", "cipher", 3, check_cipher, 3, 0},     {"rfc8452.txt", "dot", 3, check_dot, 1, 0},
     {"rfc8452.txt", "polyval", 3, check_polyval, 51, 0},  {"handles.txt", "handle", 5, check_handle, 28, 0},
-    {"handles.txt", "refused", 3, check_refused, 8, 0},
+    {"handles.txt", "refused", 3, check_refused, 8, 0},   {"sp800-38a-ctr.txt", "ctr", 4, check_ctr, 14, 0},
 };
 
 static bool check_line(struct vector_kind *kind, char *line)

@@ -172,7 +172,7 @@ static bool consumed_flag(struct trial *t)
     return lent_record(t) && (trial_machine(t)->consumed = above(1));
 }
 
-/* ---- 2 to 7: numbers and lengths ---- */
+/* ---- 2 to 7 and 18: numbers and lengths ---- */
 
 static bool settle_code(struct trial *t)
 {
@@ -189,9 +189,14 @@ static bool is_step(const struct trial *t)
     return t->call.kind == STEP;
 }
 
+static bool is_ctr(const struct trial *t)
+{
+    return t->call.kind == CTR;
+}
+
 static bool has_cpu(const struct trial *t)
 {
-    return is_step(t) || t->call.kind == CPUID;
+    return is_step(t) || is_ctr(t) || t->call.kind == CPUID;
 }
 
 static bool is_register_call(const struct trial *t)
@@ -201,7 +206,7 @@ static bool is_register_call(const struct trial *t)
 
 static bool processor_number(struct trial *t)
 {
-    return (is_step(t) || is_register_call(t)) && (t->call.processor = above(trial_machine(t)->count - 1u));
+    return (is_step(t) || is_ctr(t) || is_register_call(t)) && (t->call.processor = above(trial_machine(t)->count - 1u));
 }
 
 static bool cpu_length(struct trial *t)
@@ -228,6 +233,26 @@ static bool control_bit(struct trial *t)
 static bool zero_byte(struct trial *t)
 {
     return has_cpu(t) && (trial_cpu(t)->zeros[below(6)] = above(0));
+}
+
+static bool data_length(struct trial *t)
+{
+    if (is_ctr(t))
+        t->call.data.length = one_in(2) ? BUFFER_LIMIT + 1 : BUFFER_LIMIT + 1 + below(DATA_ROOM - BUFFER_LIMIT);
+    return is_ctr(t);
+}
+
+static bool handle_size(struct trial *t)
+{
+    static const size_t near[] = {0, 1, 16, 32, 47, 49, 56, 63, 65, 80, 128};
+    if (is_ctr(t))
+        t->call.handle.length = near[below(sizeof near / sizeof *near)];
+    return is_ctr(t);
+}
+
+static bool counter_size(struct trial *t)
+{
+    return is_ctr(t) && any_length_but(&t->call.counter.length, COUNTER_SIZE, COUNTER_ROOM);
 }
 
 static bool memory_length(struct trial *t)
@@ -454,12 +479,12 @@ static bool feature_off(struct trial *t, bool applies, uint8_t feature)
 
 static bool kl_off(struct trial *t)
 {
-    return feature_off(t, is_step(t), F_KL);
+    return feature_off(t, is_step(t) || is_ctr(t), F_KL);
 }
 
 static bool firmware_off(struct trial *t)
 {
-    return feature_off(t, is_step(t) && t->form != LOADIWKEY, F_FIRMWARE);
+    return feature_off(t, is_ctr(t) || (is_step(t) && t->form != LOADIWKEY), F_FIRMWARE);
 }
 
 static bool wide_off(struct trial *t)
@@ -467,32 +492,33 @@ static bool wide_off(struct trial *t)
     return feature_off(t, is_step(t) && is_wide(t->form), F_WIDE);
 }
 
+/* of a call that control bits count for */
+static bool control(struct trial *t, uint8_t off, uint8_t on)
+{
+    bool applies = is_step(t) || is_ctr(t);
+    if (applies)
+        trial_cpu(t)->control = (uint8_t)((trial_cpu(t)->control & ~off) | on);
+    return applies;
+}
+
 static bool cr4_kl_off(struct trial *t)
 {
-    if (is_step(t))
-        trial_cpu(t)->control &= (uint8_t)~C_CR4_KL;
-    return is_step(t);
+    return control(t, C_CR4_KL, 0);
 }
 
 static bool osfxsr_off(struct trial *t)
 {
-    if (is_step(t))
-        trial_cpu(t)->control &= (uint8_t)~C_OSFXSR;
-    return is_step(t);
+    return control(t, C_OSFXSR, 0);
 }
 
 static bool em_on(struct trial *t)
 {
-    if (is_step(t))
-        trial_cpu(t)->control |= C_EM;
-    return is_step(t);
+    return control(t, 0, C_EM);
 }
 
 static bool ts_on(struct trial *t)
 {
-    if (is_step(t))
-        trial_cpu(t)->control |= C_TS;
-    return is_step(t);
+    return control(t, 0, C_TS);
 }
 
 /* ---- 12 to 14 of instructions ---- */
@@ -704,7 +730,7 @@ static bool written_bits(struct trial *t)
     return t->call.kind == WRITE && (t->call.value |= UINT64_C(1) << (1 + below(63)));
 }
 
-/* in rising order of their numbers */
+/* in the order in which they are checked */
 const struct spoil spoils[] = {
     {R1_MACHINE, "machine not 924 bytes", machine_length},
     {R1_MACHINE, "count 0", count_0},
@@ -733,6 +759,9 @@ const struct spoil spoils[] = {
     {R5_CPU, "CPL of a register call above 3", register_cpl_above_3},
     {R5_CPU, "a control bit above 3", control_bit},
     {R5_CPU, "a zero byte of the CPU record", zero_byte},
+    {R18_SIZE, "buffer above 65,536 bytes", data_length},
+    {R18_SIZE, "handle neither 48 nor 64 bytes", handle_size},
+    {R18_SIZE, "counter block not 16 bytes", counter_size},
     {R6_MEMORY, "memory above 1,048,576 bytes", memory_length},
     {R7_RANDOM, "random data neither 0 nor 48 bytes", random_length},
     {R8_BYTE, "another byte for F3", byte_for_f3},
@@ -784,7 +813,7 @@ const int spoil_count = sizeof spoils / sizeof *spoils;
 /* mostly a refusal first, and then one of its reasons, so that those with one reason are not rare */
 static int some_spoil(void)
 {
-    uint32_t number = (uint32_t)(1 + below(NUMBERS - 1));
+    uint32_t number = checking_order[below(REFUSALS)];
     int chosen;
     bool by_number = !one_in(3);
     do
@@ -802,7 +831,7 @@ static void apply(struct trial *t, int chosen)
     t->spoils[0] = chosen;
 }
 
-/* The higher number first: what the lower one needs is then the last that was written. */
+/* The later one first: what the earlier one needs is then the last that was written. */
 static void apply_two(struct trial *t)
 {
     static struct trial before;

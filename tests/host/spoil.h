@@ -13,7 +13,7 @@ struct spoil {
 extern const struct spoil spoils[];
 extern const int spoil_count;
 
-/* One reason, or two: then the lower number is meant. Notes in the trial which. */
+/* One reason, or two: then the one that is checked first is meant. Notes in the trial which. */
 void spoil(struct trial *t);
 
 #endif

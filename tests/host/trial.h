@@ -7,6 +7,7 @@
 #include "records.h"
 
 enum { MACHINES = 4, KNOWN_HANDLES = 128, ANY_NUMBER = 1000, MEMORY_ROOM = MEMORY_LIMIT + 4096, STRING_ROOM = 4096, BUFFER_ROOM = 2048 };
+enum { DATA_ROOM = BUFFER_LIMIT + 64, COUNTER_ROOM = 64, LENT_HANDLE_ROOM = 256 };
 
 /* Machines that live side by side. Of only_calls, the record was written by calls alone since its power-on: its history is known. */
 struct emulated {
@@ -29,7 +30,7 @@ struct world {
     size_t known_count;
 };
 
-/* where the handle of a use comes from */
+/* where the handle of a use or of a counter call comes from */
 #define HANDLE_ORIGINS(X)                                                \
     X(FITTING, "of an encode under the processor's IWKey")               \
     X(UNRELATED, "of an encode, perhaps under another IWKey")            \
@@ -90,7 +91,8 @@ struct trial {
     uint64_t target; /* the operand's address */
     enum handle_origin origin;
     uint8_t machine_room[BUFFER_ROOM], cpu_room[BUFFER_ROOM], random_room[BUFFER_ROOM], string_room[STRING_ROOM];
-    uint8_t *memory_room;
+    uint8_t handle_room[LENT_HANDLE_ROOM], counter_room[COUNTER_ROOM];
+    uint8_t *memory_room, *data_room;
 };
 
 static inline struct machine *trial_machine(struct trial *t)

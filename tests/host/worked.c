@@ -10,7 +10,7 @@ const uint8_t ZERO_HANDLE[48] = {
 };
 
 /* AES-128 of a zero block under a zero key: RFC 8452, appendix A, has it as an example's first operand */
-static const uint8_t ZERO_ENCRYPTED[16] = {0x66, 0xE9, 0x4B, 0xD4, 0xEF, 0x8A, 0x2C, 0x3B, 0x88, 0x4C, 0xFA, 0x59, 0xCA, 0x34, 0x2B, 0x2E};
+const uint8_t ZERO_ENCRYPTED[16] = {0x66, 0xE9, 0x4B, 0xD4, 0xEF, 0x8A, 0x2C, 0x3B, 0x88, 0x4C, 0xFA, 0x59, 0xCA, 0x34, 0x2B, 0x2E};
 
 const struct wanted ENCRYPTED = {.xmm = ZERO_ENCRYPTED, .xmm_length = sizeof ZERO_ENCRYPTED};
 
@@ -32,7 +32,20 @@ void prepare_worked(struct trial *t, enum call_kind kind)
     t->call.memory = (struct buffer){t->memory_room, 0};
     t->call.random = (struct buffer){t->random_room, 0};
     t->call.string = (struct buffer){t->string_room, sizeof STRING};
+    memcpy(t->handle_room, ZERO_HANDLE, sizeof ZERO_HANDLE);
+    memset(t->counter_room, 0, sizeof t->counter_room);
+    t->call.handle = (struct buffer){t->handle_room, sizeof ZERO_HANDLE};
+    t->call.counter = (struct buffer){t->counter_room, COUNTER_SIZE};
+    t->call.data = (struct buffer){t->data_room, 0};
     t->spoils[0] = t->spoils[1] = -1;
+}
+
+void lend_worked(struct trial *t, size_t machine, uint8_t processor, size_t cpu, uint8_t cpl)
+{
+    t->machine.length = machine;
+    t->call.processor = processor;
+    t->call.cpu.length = cpu;
+    trial_cpu(t)->cpl = cpl;
 }
 
 static bool leaf_differs(const struct results *results, const uint32_t *leaf)
@@ -53,6 +66,8 @@ static const char *wanted_differs(const struct trial *t, const struct run *libra
         return "the machine is not what is wanted";
     if (wanted->xmm && memcmp(after->xmm, wanted->xmm, wanted->xmm_length) != 0)
         return "XMM0 and up do not hold what is wanted";
+    if (wanted->data && memcmp(library->call.data.bytes, wanted->data, library->call.data.length) != 0)
+        return "the data is not what is wanted";
     return wanted->leaf && leaf_differs(&library->results, wanted->leaf) ? "CPUID gives another leaf" : NULL;
 }
 
