@@ -1,8 +1,10 @@
 // Two AES cores in portable C that the proved library is measured against: one byte by byte
-// (aes_bytes.c) and one with T-tables (aes_ttables.c). Both have the library's five functions.
+// (aes_bytes.c) and one with T-tables (aes_ttables.c). Both have the library's five functions, and
+// counter mode.
 //
 // size 0 is AES-128, of whose key the first 16 bytes are read; any other size is AES-256.
-// w holds the round keys. data of len bytes is changed in place, every whole block of it.
+// w holds the round keys. data of len bytes is changed in place, every whole block of it, and in counter
+// mode all of it: XORed with the encryptions of counter, counter + 1, .., big-endian modulo 2^128.
 #ifndef AES_BASELINE_H
 #define AES_BASELINE_H
 
@@ -42,6 +44,7 @@ void bytes_encrypt_block(uint8_t size, const uint32_t w[60], uint8_t block[16]);
 void bytes_decrypt_block(uint8_t size, const uint32_t w[60], uint8_t block[16]);
 void bytes_encrypt_blocks(uint8_t size, const uint32_t w[60], uint8_t *data, size_t len);
 void bytes_decrypt_blocks(uint8_t size, const uint32_t w[60], uint8_t *data, size_t len);
+void bytes_ctr(uint8_t size, const uint32_t w[60], const uint8_t counter[16], uint8_t *data, size_t len);
 
 // T-tables, made by ttables_init. The first byte of a word of w is its lowest. Decryption takes the
 // schedule of the equivalent inverse cipher (FIPS 197, 5.3.5), which ttables_inv_key_expansion makes
@@ -53,5 +56,6 @@ void ttables_encrypt_block(uint8_t size, const uint32_t w[60], uint8_t block[16]
 void ttables_decrypt_block(uint8_t size, const uint32_t dw[60], uint8_t block[16]);
 void ttables_encrypt_blocks(uint8_t size, const uint32_t w[60], uint8_t *data, size_t len);
 void ttables_decrypt_blocks(uint8_t size, const uint32_t dw[60], uint8_t *data, size_t len);
+void ttables_ctr(uint8_t size, const uint32_t w[60], const uint8_t counter[16], uint8_t *data, size_t len);
 
 #endif

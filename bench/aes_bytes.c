@@ -166,6 +166,26 @@ void bytes_decrypt_blocks(uint8_t size, const uint32_t w[60], uint8_t *data, siz
         decrypt(rounds_of(size), (const uint8_t *)w, data);
 }
 
+static void count_up(uint8_t counter[16])
+{
+    for (int i = 15; i >= 0 && ++counter[i] == 0; i--)
+        ;
+}
+
+void bytes_ctr(uint8_t size, const uint32_t w[60], const uint8_t counter[16], uint8_t *data, size_t len)
+{
+    uint8_t at[16], stream[16];
+    memcpy(at, counter, 16);
+    for (size_t i = 0; i < len; i++) {
+        if (i % 16 == 0) {
+            memcpy(stream, at, 16);
+            encrypt(rounds_of(size), (const uint8_t *)w, stream);
+            count_up(at);
+        }
+        data[i] ^= stream[i % 16];
+    }
+}
+
 static inline struct column rot_word(struct column t) { return (struct column){t.b, t.c, t.d, t.a}; }
 
 // FIPS 197, figure 11, word for word, with its `mod`.

@@ -57,20 +57,36 @@ static inline uint32_t sub_column(const uint8_t box[256], uint32_t a, uint32_t b
     return word(box[byte(a, 0)], box[byte(b, 1)], box[byte(c, 2)], box[byte(d, 3)]);
 }
 
-static inline void encrypt(unsigned rounds, const uint32_t *w, uint8_t block[16])
+struct state {
+    uint32_t a, b, c, d;
+};
+
+static inline struct state load_state(const uint8_t p[16])
 {
-    uint32_t a = load_word(block) ^ w[0], b = load_word(block + 4) ^ w[1];
-    uint32_t c = load_word(block + 8) ^ w[2], d = load_word(block + 12) ^ w[3];
+    return (struct state){load_word(p), load_word(p + 4), load_word(p + 8), load_word(p + 12)};
+}
+
+// The cipher of s, XORed with x. Always inline, and each word stored as soon as it is there: with a call, or with all
+// four stored at the end, counter mode took 7 to 18 percent longer at gcc -O2.
+__attribute__((always_inline)) static inline void encrypt_onto(unsigned rounds, const uint32_t *w, struct state s,
+                                                               struct state x, uint8_t out[16])
+{
+    uint32_t a = s.a ^ w[0], b = s.b ^ w[1], c = s.c ^ w[2], d = s.d ^ w[3];
     w += 4;
     for (unsigned r = 1; r < rounds; r++, w += 4) {
         uint32_t e = enc_column(a, b, c, d) ^ w[0], f = enc_column(b, c, d, a) ^ w[1];
         uint32_t g = enc_column(c, d, a, b) ^ w[2], h = enc_column(d, a, b, c) ^ w[3];
         a = e, b = f, c = g, d = h;
     }
-    store_word(block, sub_column(sbox, a, b, c, d) ^ w[0]);
-    store_word(block + 4, sub_column(sbox, b, c, d, a) ^ w[1]);
-    store_word(block + 8, sub_column(sbox, c, d, a, b) ^ w[2]);
-    store_word(block + 12, sub_column(sbox, d, a, b, c) ^ w[3]);
+    store_word(out, x.a ^ sub_column(sbox, a, b, c, d) ^ w[0]);
+    store_word(out + 4, x.b ^ sub_column(sbox, b, c, d, a) ^ w[1]);
+    store_word(out + 8, x.c ^ sub_column(sbox, c, d, a, b) ^ w[2]);
+    store_word(out + 12, x.d ^ sub_column(sbox, d, a, b, c) ^ w[3]);
+}
+
+static inline void encrypt(unsigned rounds, const uint32_t *w, uint8_t block[16])
+{
+    encrypt_onto(rounds, w, load_state(block), (struct state){0, 0, 0, 0}, block);
 }
 
 static inline void decrypt(unsigned rounds, const uint32_t *w, uint8_t block[16])
@@ -111,6 +127,41 @@ void ttables_decrypt_blocks(uint8_t size, const uint32_t dw[60], uint8_t *data, 
     for (; len >= 16; data += 16, len -= 16)
         decrypt(rounds_of(size), dw, data);
 }
+
+// ---- counter mode: the counter stays in registers, and the data is XORed by words
+
+static inline uint32_t reversed(uint32_t x)
+{
+    return x << 24 | (x << 8 & 0xff0000) | (x >> 8 & 0xff00) | x >> 24;
+}
+
+static inline uint64_t load_big(const uint8_t p[8])
+{
+    return (uint64_t)reversed(load_word(p)) << 32 | reversed(load_word(p + 4));
+}
+
+static inline struct state counter_state(uint64_t high, uint64_t low)
+{
+    return (struct state){reversed((uint32_t)(high >> 32)), reversed((uint32_t)high), reversed((uint32_t)(low >> 32)),
+                          reversed((uint32_t)low)};
+}
+
+void ttables_ctr(uint8_t size, const uint32_t w[60], const uint8_t counter[16], uint8_t *data, size_t len)
+{
+    uint64_t high = load_big(counter), low = load_big(counter + 8);
+    uint8_t last[16] = {0};
+    for (; len >= 16; data += 16, len -= 16) {
+        encrypt_onto(rounds_of(size), w, counter_state(high, low), load_state(data), data);
+        high += ++low == 0;
+    }
+    if (len == 0)
+        return;
+    encrypt_onto(rounds_of(size), w, counter_state(high, low), load_state(last), last);
+    for (size_t i = 0; i < len; i++)
+        data[i] ^= last[i];
+}
+
+// ---- key schedules
 
 static inline uint32_t sub_word(uint32_t x) { return sub_column(sbox, x, x, x, x); }
 

@@ -24,6 +24,8 @@ struct row {
     bool alone;    // no core does the like
     bool plain;    // there is one baseline, PLAIN
     uint8_t count; // of processors, where the program has any
+    size_t bytes;      // of the buffer of a counter call
+    bool without_wide; // on a machine without the wide feature
     size_t reps[CORES];
     double ns[CORES];
 };
