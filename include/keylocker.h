@@ -235,9 +235,10 @@ uint32_t keylocker_step(uint8_t *machine, size_t machine_len, uint8_t processor,
  * counter count, the last one lowest, modulo 2^128. A last block of fewer bytes takes the first bytes of its encrypted counter.
  *
  * The same call again, with the same counter block, gives the buffer back: sealing and opening are one. A handle that may not encrypt does not open here,
- * and one that may not decrypt does. To go on where a call ended, with more than KEYLOCKER_BUFFER_LIMIT bytes for one, cut at a multiple of 16 bytes and
- * add (buffer_len + 15) / 16 to the counter block, which is not written; no next counter is given. No counter value may ever serve two blocks under one key:
- * whoever has both then has the XOR of what was sealed. Nothing is authenticated: a bit flipped in the buffer is flipped in what comes back.
+ * and one that may not decrypt does. The counter block is not written and no next one is given: a call takes the (buffer_len + 15) / 16 values from it on,
+ * and the next call under the same key has to begin with the counter block plus that number. Data of more than KEYLOCKER_BUFFER_LIMIT bytes is cut at a
+ * multiple of 16 bytes and goes on like this; its parts are what the whole would be. No value may ever serve two blocks of different data under one key:
+ * whoever has both sealed has the XOR of the two. Nothing is authenticated: a bit flipped in the sealed buffer is flipped in what comes back.
  *
  * Answer 0 does not say that the handle opened: ZF is 0 if so. Where it is 1, the buffer is as it was. Of the CPU record only the six flags are written: as
  * by a use, but RIP stays, for there is no string, and so do the XMM registers. An empty buffer, for which a null pointer will do, has all checks and its
