@@ -1,6 +1,7 @@
 /* Faults planted in the model, one at a time, to show that the runner finds them: FAULT(name) is true only in a model compiled with
  * -DFAULTY=n, where n is the place of that name in the list. The last ones stand around the library's call instead, as if the library misused
- * what it was lent, and those called drift change what its CPUID answered beside another call. tests/host/faults.sh builds and runs them all. */
+ * what it was lent; those called drift change what its CPUID answered beside another call, and those called law what it made of a counter call again.
+ * tests/host/faults.sh builds and runs them all. */
 #ifndef FAULTS_H
 #define FAULTS_H
 
