@@ -1,6 +1,6 @@
 // Words of four bytes and blocks of four words: loads, stores, rotation and the S-box.
 ghost use mathlib.Core.Path.{_≡_};
-ghost use mathlib.Core.List.{[], _∷_, _++_};
+ghost use mathlib.Core.List.{[], _∷_, _++_, reverse};
 ghost use Prim.Native.Nat.{_+_, _≤_, _<_};
 ghost use lib.ListN.{length, getD, take, drop};
 ghost use lib.Seq.{sets};
@@ -53,6 +53,13 @@ fn byte3(x: u32) -> u8
     ensures { λ r. ⌜ r ≡ getD (leBytes 4 x) 3 0 ⌝ }
 {
     (x >> 24) as u8
+}
+
+// The bytes in reverse.
+pub fn swap(x: u32) -> u32
+    ensures { λ r. ⌜ leBytes 4 r ≡ reverse (leBytes 4 x) ⌝ }
+{
+    pack(byte3(x), byte2(x), byte1(x), byte0(x))
 }
 
 fn entry(table: &[u8; 256], x: u8) -> u8

@@ -120,7 +120,14 @@ pub fn encrypt_eight(
     while i < 8 {
         let at = 16 * i;
         let next = 16 * (i + 1);
-        let p = cipher_two(tables, sbox, w, n, block_at(bytes, at), block_at(bytes, next));
+        let p = cipher_two(
+            tables,
+            sbox,
+            w,
+            n,
+            block_at(bytes, at),
+            block_at(bytes, next),
+        );
         let first = p.first;
         let second = p.second;
         put_block(bytes, at, first);

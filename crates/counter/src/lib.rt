@@ -133,14 +133,7 @@ fn size_of(handle: &[u8]) -> KeySize
 }
 
 // A call that no refusal stops.
-fn perform(
-    wide: bool,
-    k: IwKey,
-    cpu: &mut [u8],
-    handle: &[u8],
-    counter: &[u8],
-    buffer: &mut [u8],
-)
+fn perform(wide: bool, k: IwKey, cpu: &mut [u8], handle: &[u8], counter: &[u8], buffer: &mut [u8])
     requires { ⌜ length (now cpu) ≡ cpuSize ⌝ }
     requires { ⌜ length (now handle) ≡ handleLength (sizeOf (now handle)) ⌝ }
     requires { ⌜ length (now counter) ≡ 16 ⌝ }
@@ -173,6 +166,13 @@ pub fn count(
         return Answer::Refused(number);
     }
     let e = m.processors[(processor % 16) as usize];
-    perform(bit(WIDE_FORMS, features), e.key, cpu, handle, counter, buffer);
+    perform(
+        bit(WIDE_FORMS, features),
+        e.key,
+        cpu,
+        handle,
+        counter,
+        buffer,
+    );
     Answer::Done
 }

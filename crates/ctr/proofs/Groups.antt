@@ -36,11 +36,11 @@ module _ (c : List ℕ) (sixteen : length c ≡ 16) where
       let ends : 16 * n + length b ≡ 16 * (n + 1) = omega arith in
       let sum : 16 * n + 16 ≡ 16 * (n + 1) = omega arith in
       let size : length l ≡ length s
-          = ap length inv ∙ length-append (side c 0 n) (drop (16 * n) s) ∙ omega (arith, side-length 0 n, length-drop (16 * n) s) in
+      = ap length inv ∙ length-append (side c 0 n) (drop (16 * n) s) ∙ omega (arith, side-length 0 n, length-drop (16 * n) s) in
       let front : take (16 * n) l ≡ side c 0 n = ap (take (16 * n)) inv ∙ take-at (side c 0 n) (drop (16 * n) s) (16 * n) (side-length 0 n) in
       let rest : drop (16 * n) l ≡ drop (16 * n) s = ap (drop (16 * n)) inv ∙ drop-at (side c 0 n) (drop (16 * n) s) (16 * n) (side-length 0 n) in
       let behind : drop (16 * (n + 1)) l ≡ drop (16 * (n + 1)) s
-          = ap (λ (k : ℕ). drop k l) (sym sum) ∙ sym (drop-drop 16 (16 * n) l) ∙ ap (drop 16) rest ∙ drop-drop 16 (16 * n) s ∙ ap (λ (k : ℕ). drop k s) sum in
+      = ap (λ (k : ℕ). drop k l) (sym sum) ∙ sym (drop-drop 16 (16 * n) l) ∙ ap (drop 16) rest ∙ drop-drop 16 (16 * n) s ∙ ap (λ (k : ℕ). drop k s) sum in
       stored
       ∙ sets-eq b l (16 * n) (omega arith)
       ∙ ap (λ (k : ℕ). take (16 * n) l ++ b ++ drop k l) ends

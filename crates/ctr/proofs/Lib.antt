@@ -1,3 +1,3 @@
-pub mod Counting
+pub mod Halves
 pub mod Masking
 pub mod Groups

@@ -1,6 +1,6 @@
 -- Data masked from the front, some blocks at a time: over any cipher whose results have 16 bytes.
 -- Assumes nothing.
-use mathlib.Core.Path.{_≡_, refl, sym, ap, ap₂, _∙_}
+use mathlib.Core.Path.{_≡_, refl, sym, ap, ap₂, subst, _∙_}
 use mathlib.Core.List.{List, [], _∷_, _++_, append-assoc, append-nil, flatMap}
 use Prim.Native.Nat.{ℕ, _+_, _-_, _*_, _≤_, _<_}
 use native.Mathlib.Omega.{arith}
@@ -9,11 +9,18 @@ use lib.Seq.{sets, sets-eq, length-sets, length-take-le, take-all, take-take, ta
 use Rattle.bits.specs.Blocks.{mapBlocks}
 use Rattle.bits.specs.Bytes.{Bytes, xorBytes}
 use Rattle.bits.proofs.Lists.{cons, no-elements}
+use Rattle.aes.specs.Meaning.{bytesOf}
+use Rattle.aes.specs.declared.Block.{Block}
+use Rattle.aes.proofs.Tables.{block-bytes}
 use Rattle.sp800_38a.specs.Counter.{counterAt, counters, outputBlocks, ctr}
 use Rattle.sp800_38a.proofs.Counters.{counter-sum, counter-none, counter-length}
 use Rattle.sp800_38a.proofs.Ctr.{output-length, ctr-length, ctr-append, ctr-block}
 
 -- ---- counter blocks one behind the other
+
+-- a block is the one none behind it
+pub first-counter : (b : Block) {c : List ℕ} → c ≡ bytesOf b → c ≡ counterAt c 0
+first-counter b {c} e = sym (counter-none c (subst Bytes (sym e) (block-bytes b)))
 
 -- the counter block behind one that stands i blocks behind c
 pub counted : (c : List ℕ) (i n m : ℕ) {b b′ : List ℕ} → m ≡ i + n → b ≡ counterAt c i → b′ ≡ counterAt b n → b′ ≡ counterAt c m

@@ -10,9 +10,11 @@ ghost use Rattle.aes_blocks.specs.TableCipher.{tableCipher};
 ghost use Rattle.aes_ttables.specs.Turned.{Turned};
 ghost use Rattle.sp800_38a.specs.Counter.{counterAt, outputBlocks, ctr};
 
-pub mod counter;
+mod counting;
 
-use crate::counter::next_counter;
+use crate::counting::block_of;
+use crate::counting::counter_of;
+use crate::counting::next;
 use aes::Block;
 use aes::word::block_at;
 use aes::word::put_block;
@@ -24,6 +26,12 @@ use aes_ttables::encrypt_block;
 use aes_ttables::encrypt_eight;
 use aes_ttables::tables::fill_tables;
 use fips197::KeySize;
+
+// The number that a counter block stands for, in two halves.
+pub(crate) struct Counter {
+    pub high: u64,
+    pub low: u64,
+}
 
 // Four tables pay for themselves from so many bytes on.
 const TABLES_FROM: usize = 384;
@@ -43,18 +51,18 @@ fn mask_blocks(
     ensures { λ r. ⌜ bytesOf r ≡ counterAt (bytesOf c) (length (now (bytes .entry)) / 16) ⌝ }
 {
     let count = bytes.len() / 16;
-    let mut counter = c;
+    let mut counter = counter_of(c);
     let mut i: usize = 0;
     while i < count {
         let at = 16 * i;
-        let stream = encrypt_block_with(mixed, sbox, size, w, counter);
+        let stream = encrypt_block_with(mixed, sbox, size, w, block_of(counter));
         let b = xor_block(block_at(bytes, at), stream);
         put_block(bytes, at, b);
-        let next = next_counter(counter);
-        counter = next;
+        let behind = next(counter);
+        counter = behind;
         i += 1;
     }
-    counter
+    block_of(counter)
 }
 
 fn mask_blocks_by_four(
@@ -70,18 +78,18 @@ fn mask_blocks_by_four(
     ensures { λ r. ⌜ bytesOf r ≡ counterAt (bytesOf c) (length (now (bytes .entry)) / 16) ⌝ }
 {
     let count = bytes.len() / 16;
-    let mut counter = c;
+    let mut counter = counter_of(c);
     let mut i: usize = 0;
     while i < count {
         let at = 16 * i;
-        let stream = encrypt_block(tables, sbox, size, w, counter);
+        let stream = encrypt_block(tables, sbox, size, w, block_of(counter));
         let b = xor_block(block_at(bytes, at), stream);
         put_block(bytes, at, b);
-        let next = next_counter(counter);
-        counter = next;
+        let behind = next(counter);
+        counter = behind;
         i += 1;
     }
-    counter
+    block_of(counter)
 }
 
 // ---- groups of eight
@@ -92,15 +100,15 @@ fn put_counters(s: &mut [u8], c: Block) -> Block
     ensures { λ _. ⌜ now (s .exit) ≡ outputBlocks (λ b. b) (bytesOf c) 0 8 ⌝ }
     ensures { λ r. ⌜ bytesOf r ≡ counterAt (bytesOf c) 8 ⌝ }
 {
-    let mut counter = c;
+    let mut counter = counter_of(c);
     let mut i: usize = 0;
     while i < 8 {
-        put_block(s, 16 * i, counter);
-        let next = next_counter(counter);
-        counter = next;
+        put_block(s, 16 * i, block_of(counter));
+        let behind = next(counter);
+        counter = behind;
         i += 1;
     }
-    counter
+    block_of(counter)
 }
 
 // The counter blocks are enciphered together, as a wide form does it.

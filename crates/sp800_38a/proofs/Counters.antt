@@ -16,7 +16,7 @@ bytes-reverse [] r h k = k
 bytes-reverse (x ∷ l) r h k = bytes-reverse l (x ∷ r) (h .1) (h .0, k)
 
 -- only the number modulo 256 to n counts
-le-mod : (n x : ℕ) → leBytes n (x % 256 ^ n) ≡ leBytes n x
+pub le-mod : (n x : ℕ) → leBytes n (x % 256 ^ n) ≡ leBytes n x
 le-mod n x =
     ap (leBytes n) (sym (value-le n x))
     ∙ ap (λ (k : ℕ). leBytes k (leValue (leBytes n x))) (sym (le-length n x))

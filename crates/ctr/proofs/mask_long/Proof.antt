@@ -86,14 +86,14 @@ returns c =
     let m : g / 16 + k / 16 ≡ n = omega arith in
     let first = masked-first f (bytesOf (a .c)) s (g / 16) g e (groups .mask-groups .ensures .0 (a .mixed .now) rule) in
     let behind : bytesOf (groups .mask-groups .result) ≡ counterAt (bytesOf (a .c)) (g / 16)
-        = groups .mask-groups .ensures .1 ∙ ap (λ (j : ℕ). counterAt (bytesOf (a .c)) (j / 16)) (groups-part chosen) in
+    = groups .mask-groups .ensures .1 ∙ ap (λ (j : ℕ). counterAt (bytesOf (a .c)) (j / 16)) (groups-part chosen) in
     let long = masked-length f (cipher-length _ _ _ _) (bytesOf (a .c)) s (g / 16) (omega arith) first in
     let all = masked-more f (cipher-length _ _ _ _) (bytesOf (a .c)) s (g / 16) (omega arith) first (k / 16) n g k e (omega arith) (sym m) (omega arith) behind
-        (four .mask-blocks-by-four .ensures .0 (a .mixed .now) rule) refl in
+    (four .mask-blocks-by-four .ensures .0 (a .mixed .now) rule) refl in
     let next : bytesOf (four .mask-blocks-by-four .result) ≡ counterAt (bytesOf (a .c)) n
-        = counted (bytesOf (a .c)) (g / 16) (k / 16) n (sym m) behind
-        (four .mask-blocks-by-four .ensures .1
-        ∙ ap (λ (j : ℕ). counterAt (bytesOf (groups .mask-groups .result)) (j / 16)) (part-length _ g k (omega (arith, long)))) in
+    = counted (bytesOf (a .c)) (g / 16) (k / 16) n (sym m) behind
+    (four .mask-blocks-by-four .ensures .1
+    ∙ ap (λ (j : ℕ). counterAt (bytesOf (groups .mask-groups .result)) (j / 16)) (part-length _ g k (omega (arith, long)))) in
     masked-end f (cipher-length _ _ _ _) (bytesOf (a .c)) s n (omega arith) all (n * 16) _ (omega arith) refl next (end .mask-end .ensures) refl
 
 pub mask-long-spec : {M : Type 1} → statement M
