@@ -13,7 +13,7 @@ from functools import partial
 from pathlib import Path
 
 ROOT = Path(__file__).resolve().parent.parent
-VECTORS = ["tests/vectors/fips197.txt", "tests/vectors/rfc8452.txt", "tests/vectors/handles.txt"]
+VECTORS = ["tests/vectors/fips197.txt", "tests/vectors/rfc8452.txt", "tests/vectors/sp800-38a-ctr.txt", "tests/vectors/handles.txt"]
 STDIN = "crates/vectors/stdin"
 STDOUT = "crates/vectors/stdout"
 
@@ -87,6 +87,15 @@ def refused(name, integrity, encryption, handle):
     return [integrity, encryption, handle[:32], handle[32:64], handle[64:]], [f"unwrap {name} none"]
 
 
+def ctr(name, key, counter, plaintext, ciphertext):
+    require_bytes(key, 16, 32)
+    require_bytes(counter, 16)
+    require_bytes(plaintext, *range(1, 65))
+    require_bytes(ciphertext, len(plaintext) // 2)
+    given = [counter, f"{len(plaintext) // 2:02x}", plaintext.ljust(128, "0"), key]
+    return given, [f"{kind} {name} {ciphertext} {plaintext}" for kind in ["ctr", "ctr-long", "ctr-wide"]]
+
+
 # In the order of crates/vectors/src/example.rt.
 KINDS = {
     "expand": expand,
@@ -96,6 +105,7 @@ KINDS = {
     "polyval": polyval,
     "handle": handle,
     "refused": refused,
+    "ctr": ctr,
 }
 
 

@@ -4,10 +4,12 @@ ghost use Prim.Native.Nat.{_/_, _*_};
 ghost use lib.ListN.{length, take};
 ghost use Rattle.bits.specs.Blocks.{mapBlocks};
 ghost use Rattle.bits.specs.Words.{leWords};
+ghost use Rattle.fips197.specs.Aes.{encrypt};
 ghost use Rattle.fips197.specs.Cipher.{cipher};
 ghost use Rattle.fips197.specs.InvCipher.{invCipher};
 ghost use Rattle.fips197.specs.Sizes.{nk, nr};
 ghost use Rattle.aes.specs.Meaning.{bytesOf, keyBytes, schedule, storedSchedule};
+ghost use Rattle.sp800_38a.specs.Counter.{ctr};
 ghost use Rattle.aes_c.specs.Size.{sizeOf};
 use aes::Block;
 use aes::Key;
@@ -20,6 +22,7 @@ use aes_blocks::tables::mix_table;
 use aes_inv_blocks::decrypt_block_with;
 use aes_inv_blocks::decrypt_blocks_with;
 use aes_key::expand_with;
+use ctr::mask;
 use fips197::KeySize;
 use sbox::sbox_table;
 
@@ -72,6 +75,17 @@ pub fn decrypt_blocks(size: KeySize, w: &[u32; 60], bytes: &mut [u8])
     let sbox = sbox_table();
     let mut mixed = [0u32; 256];
     decrypt_blocks_with(&sbox, &mut mixed, size, w, bytes);
+}
+
+// Counter mode from the counter block c on.
+pub fn ctr_mask(wide: bool, size: KeySize, key: Key, c: Block, bytes: &mut [u8])
+    ensures { λ _. ⌜ now (bytes .exit) ≡ ctr (encrypt (nk size) (keyBytes size key)) (bytesOf c) (now (bytes .entry)) ⌝ }
+{
+    let sbox = sbox_table();
+    let mut mixed = [0u32; 256];
+    mix_table(&sbox, &mut mixed);
+    let w = expand_with(&sbox, size, key);
+    mask(wide, &mixed, &sbox, size, &w, c, bytes);
 }
 
 #[no_mangle]

@@ -1,41 +1,19 @@
--- A buffer under a handle: the cipher by tables is that of FIPS 197, and what a use's flags and blocks say is the model's counter call.
+-- A buffer under a handle: what a use's flags and blocks say is the model's counter call.
 -- Assumes nothing.
-use mathlib.Core.Path.{_≡_, _∙_, refl, sym, ap, ap₂}
-use mathlib.Core.Bool.{Bool, true, false, cond}
+use mathlib.Core.Path.{_≡_, _∙_, refl, ap}
+use mathlib.Core.Bool.{cond}
 use mathlib.Core.List.{List}
 use mathlib.Core.Option.{Option, none, some}
 use Prim.Native.Nat.{ℕ}
-use lib.ListN.{take}
-use Rattle.bits.proofs.Words.{words-bytes}
-use Rattle.fips197.specs.Aes.{encrypt}
-use Rattle.fips197.specs.Cipher.{cipher}
-use Rattle.fips197.specs.Sbox.{SboxTable}
-use Rattle.fips197.specs.Sizes.{nk, nr}
 use Rattle.fips197.specs.declared.Direction.the-variants.{Encrypt}
 use Rattle.fips197.specs.declared.KeySize.{KeySize}
-use Rattle.aes.specs.Meaning.{keyBytes, schedule, storedSchedule}
-use Rattle.aes.specs.declared.Key.{Key}
-use Rattle.aes.proofs.Schedule.{schedule-stored}
-use Rattle.bits.specs.Words.{leWords}
-use Rattle.aes_blocks.specs.Tables.{MixedTable}
-use Rattle.aes_blocks.specs.TableCipher.{tableCipher}
-use Rattle.aes_blocks.proofs.TableCipher.{schedule-by}
 use Rattle.sp800_38a.specs.Counter.{ctr}
-use Rattle.sp800_38a.proofs.Ctr.{ctr-ext}
 use Rattle.model.specs.Calls.{CounterCall}
 use Rattle.model.specs.Counter.{sizeOf, countedBy, counted}
 use Rattle.model.specs.Cpu.{cpl, withZf}
 use Rattle.model.specs.Instructions.{openedFor, aes}
 use Rattle.model.specs.declared.IwKey.{IwKey}
 use Rattle.aeskl.specs.Meaning.{Used, usedBy}
-
--- with the right tables and the schedule of a key
-pub masked-by : (t f : List ℕ) → MixedTable t → SboxTable f → (size : KeySize) (key : Key) (w : List ℕ) → leWords 4 w ≡ storedSchedule size (keyBytes size key)
-    → (c s : List ℕ) → ctr (tableCipher t f (schedule size w) (nr size)) c s ≡ ctr (aes Encrypt size (keyBytes size key)) c s
-unfolding encrypt
-masked-by t f rule box size key w stored c s =
-    ctr-ext (tableCipher t f (schedule size w) (nr size)) (cipher (schedule size w) (nr size)) (schedule-by t f rule box size w) c s
-    ∙ ap (λ (l : List ℕ). ctr (cipher l (nr size)) c s) (schedule-stored size key w stored)
 
 -- flags and buffer, as the model has them
 counted-left : (size : KeySize) (o : Option (List ℕ)) (c : CounterCall) {u : Used} → u ≡ usedBy (λ key. ctr (aes Encrypt size key) (c .counter)) o (c .buffer)

@@ -1,3 +1,4 @@
 pub mod Halves
 pub mod Masking
 pub mod Groups
+pub mod Keyed

@@ -3,6 +3,7 @@
 use crate::ciphers;
 use crate::handles;
 use crate::rfc8452;
+use crate::sp800_38a;
 use aes::Block;
 use aes::Key;
 use aes::word::block_at;
@@ -37,7 +38,8 @@ fn run(name: &[u8], a: [u8; 960]) {
         3 => rfc8452::dot(name, a),
         4 => rfc8452::polyval(name, a),
         5 => handles::handle(name, a),
-        _ => handles::refused(name, a),
+        6 => handles::refused(name, a),
+        _ => sp800_38a::ctr(name, a),
     }
 }
 

@@ -4,6 +4,7 @@ mod example;
 mod handles;
 mod print;
 mod rfc8452;
+mod sp800_38a;
 
 use libc::STDIN_FILENO;
 

@@ -19,6 +19,21 @@ pub fn print_block(b: Block) {
     print_word(b.d);
 }
 
+fn print_bytes(bytes: &[u8]) {
+    let mut i: usize = 0;
+    while i < bytes.len() {
+        io::print_hex(STDOUT_FILENO, bytes[i] as u64, 2);
+        i += 1;
+    }
+}
+
+// The first n bytes, where there are so many.
+pub fn print_first(bytes: &[u8], n: usize) {
+    if n <= bytes.len() {
+        print_bytes(&bytes[0..n]);
+    }
+}
+
 pub fn start(what: &[u8], name: &[u8]) {
     print(what);
     print(name);

@@ -10,8 +10,8 @@ use Rattle.sp800_38a.specs.Counter.{ctr}
 use Rattle.model.specs.Instructions.{aes}
 use Rattle.aeskl.specs.Meaning.{Used, usedBy}
 use Rattle.aes_blocks.proofs.Columns.{boxed}
+use Rattle.ctr.proofs.Keyed.{masked-by}
 use Rattle.aeskl.proofs.Openings.{illegal-used, none-used, key-used}
-use Rattle.counter.proofs.Buffers.{masked-by}
 use borrow.Author.Needs.{needs}
 use Rattle.counter.proofs.used_buffer.Statement.{statement}
 use Rattle.counter.proofs.used_buffer.Tie as tie
