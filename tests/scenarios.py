@@ -26,11 +26,11 @@ STDOUT = ROOT / "crates/scenarios/stdout"
 PROGRAM = ROOT / "target/bin/scenarios"
 
 # How many characters the program reads.
-STDIN_LIMIT = 131_072
+STDIN_LIMIT = 196_608
 
 # ---- the calls as lines, as crates/scenarios/src/call.rt has them
 
-KINDS = ["power-on", "read", "write", "settle", "sleep", "reset", "step", "lend", "cpuid", "taken"]
+KINDS = ["power-on", "read", "write", "settle", "sleep", "reset", "step", "lend", "cpuid", "taken", "ctr"]
 
 
 def with_zeros_short(block):
@@ -48,7 +48,7 @@ def with_zeros_short(block):
 
 def stdin_line(name, kind, x=0, y=0, address=0, value=0, parts=()):
     """Each of parts goes into a place of its own; their lengths stand before them."""
-    lengths = [len(part) for part, room in parts] if kind in ["step", "cpuid"] else []
+    lengths = [len(part) for part, room in parts] if kind in ["step", "cpuid", "ctr"] else []
     lengths = "".join(f"{length:04x}" for length in lengths).ljust(16, "0")
     head = f"{KINDS.index(kind):02x}{x:02x}{y:02x}00 {address:08x} {value:016x} {lengths}"
     for part, room in parts:
@@ -67,6 +67,11 @@ def changes(what, old, new):
     return text
 
 
+def words(buffer):
+    """With zeros up to a multiple of four."""
+    return buffer + bytes(-len(buffer) % 4)
+
+
 class Script:
     """Calls on one machine, with the lines that go in and come out. Each call answers its number, 0 where it was not refused."""
 
@@ -75,6 +80,7 @@ class Script:
         self.cpu = None
         self.value = None
         self.registers = None
+        self.buffer = None
         self.stdin = []
         self.stdout = []
 
@@ -147,6 +153,22 @@ class Script:
             number, self.registers, said = refused.number, None, ""
         return self.line(name, "cpuid", number, said, self.machine, address=leaf, value=subleaf, parts=[(before, 416)])
 
+    def ctr(self, name, handle, buffer, counter=None, processor=0, cpu=None):
+        """Of the buffer 200 bytes are given; behind them it has zeros."""
+        before = record() if cpu is None else cpu
+        counter = COUNTER if counter is None else counter
+        try:
+            after, self.buffer = model.ctr(self.machine, processor, before, handle, counter, buffer)
+            self.cpu = Cpu(after)
+            masked = changes(" buffer", words(buffer), words(self.buffer))
+            number, said = 0, f" zf {self.cpu.rflags >> 6 & 1}{changes(' cpu', before, after)}{masked}"
+        except Refused as refused:
+            number, said = refused.number, ""
+            self.cpu = self.buffer = None
+        assert not any(buffer[200:])
+        parts = [(before, 416), (handle, 256), (counter, 64), (buffer[:200], 200)]
+        return self.line(name, "ctr", number, said, self.machine, x=processor, address=len(buffer), parts=parts)
+
 
 # ---- pieces of scenarios
 
@@ -176,6 +198,8 @@ B = IWKey(integrity=block(0xB0), encryption=block(0xB1) + block(0xB2))
 KEY_128 = block(1)
 KEY_256 = block(2) + block(3)
 PLAIN = block(4)
+COUNTER = block(7)
+DATA = b"".join(map(block, range(0x50, 0x5D)))[:200]
 
 # Strings, with [rax] for the handle. Encodes: destination eax, source ecx. LOADIWKEY: SRC1 xmm2, SRC2 xmm1.
 ENC_128, DEC_128, ENC_256, DEC_256 = (f"f3 0f 38 {opcode} 00" for opcode in ["dc", "dd", "de", "df"])
@@ -930,6 +954,96 @@ def values(s):
     aeskle(s)
 
 
+# ---- counter calls
+
+
+def expect_masked(script, name, key, counter, data):
+    """ZF 0, and data XORed with the enciphered counter blocks, which go on from 2^128 - 1 with 0."""
+    first = int.from_bytes(counter, "big")
+    blocks = [((first + n) % 2**128).to_bytes(16, "big") for n in range((len(data) + 15) // 16)]
+    stream = b"".join(key_locker.cipher(key, b) for b in blocks)[: len(data)]
+    expect(name, (script.cpu.rflags & model.ZF, script.buffer), (0, key_locker.xor(data, stream)))
+
+
+def masked(script, name, key, data=DATA[:33], counter=COUNTER, bits=0, **fields):
+    expect(name, script.ctr(name, handle(A, key, bits), data, counter, **fields), 0)
+    expect_masked(script, name, key, counter, data)
+
+
+def closed(script, name, h, data=DATA[:33], **fields):
+    """ZF 1, and the buffer as it was."""
+    expect(name, script.ctr(name, h, data, **fields), 0)
+    expect(name, (script.cpu.rflags & model.ZF, script.buffer), (model.ZF, data))
+
+
+def ctr_lengths(s):
+    """None, about a block, about a group of eight; where it is done by four tables, singly and in groups of eight; and twice."""
+    for key in [KEY_128, KEY_256]:
+        for length in [0, 1, 15, 16, 17, 128, 131, 200]:
+            masked(s, f"ctr-{8 * len(key)}-{length}", key, DATA[:length])
+        masked(s, f"ctr-{8 * len(key)}-again", key, s.buffer)
+        expect("ctr-again", s.buffer, DATA)
+    for wide, off in [("on", 0), ("off", model.WIDE)]:
+        s.power_on(f"ctr-wide-{wide}-power-on", count=2, features=model.ALL_FEATURES & ~off)
+        load(s, f"ctr-wide-{wide}-load", A)
+        for key, length in [(KEY_128, 33), (KEY_128, 383), (KEY_256, 384), (KEY_128, 541)]:
+            masked(s, f"ctr-wide-{wide}-{8 * len(key)}-{length}", key, DATA.ljust(length, b"\0")[:length])
+
+
+def ctr_counters(s):
+    for name, counter in [
+        ("byte", bytes(15) + b"\xff"),
+        ("32-bits", bytes(12) + b"\xff" * 4),
+        ("64-bits", bytes(8) + b"\xff" * 8),
+        ("highest-bit", b"\x7f" + b"\xff" * 15),
+        ("wraps", b"\xff" * 16),
+        ("wraps-later", b"\xff" * 15 + b"\xfe"),
+    ]:
+        masked(s, f"ctr-counter-{name}", KEY_256, DATA[:48], counter)
+
+
+def ctr_handles(s):
+    """What a single block encryption does with a handle."""
+    h = handle(A, KEY_128)
+    for at in [0, 3, 15, 16, 31, 32, 47]:
+        closed(s, f"ctr-damaged-{at}", h[:at] + bytes([h[at] ^ 0x10]) + h[at + 1 :])
+    closed(s, "ctr-closed-empty", h[:47] + bytes(1), b"")
+    closed(s, "ctr-closed-65536", h[:47] + bytes(1), bytes(65536))
+    closed(s, "ctr-other-iwkey", handle(B, KEY_256))
+    closed(s, "ctr-other-processor", h, processor=1)
+    closed(s, "ctr-256-over-128", h + bytes(16))
+    closed(s, "ctr-128-over-256", handle(A, KEY_256)[:48])
+    closed(s, "ctr-no-encryption", handle(A, KEY_128, 2))
+    masked(s, "ctr-no-decryption", KEY_128, bits=4)
+    closed(s, "ctr-privilege-cpl-3", handle(A, KEY_256, 1), cpu=record(cpl=3))
+    masked(s, "ctr-privilege-cpl-0", KEY_256, bits=1)
+    masked(s, "ctr-cpl-3", KEY_256, cpu=record(cpl=3))
+
+
+def ctr_flags(s):
+    """All bits set before: the six flags are written, the others and the other registers kept."""
+    before = record({n: b"\xff" * 16 for n in range(16)}, 2**64 - 1, 2**64 - 1, **dict.fromkeys(REGISTERS, 2**64 - 1))
+    h = handle(A, KEY_128)
+    for name, lent, rflags in [
+        ("masked", h, 0xFFFF_FFFF_FFFF_F72A),
+        ("closed", h[:47] + bytes(1), 0xFFFF_FFFF_FFFF_F76A),
+        ("illegal", handle(A, KEY_128, 2), 0xFFFF_FFFF_FFFF_F76A),
+    ]:
+        expect(f"ctr-flags-{name}", s.ctr(f"ctr-flags-{name}", lent, PLAIN, cpu=before), 0)
+        after = Cpu(before)
+        after.rflags = rflags
+        expect(f"ctr-flags-{name}", bytes(s.cpu.bytes), bytes(after.bytes))
+
+
+def counter_calls(s):
+    s.power_on("ctr-power-on", count=2)
+    load(s, "ctr-load", A)
+    ctr_lengths(s)
+    ctr_counters(s)
+    ctr_handles(s)
+    ctr_flags(s)
+
+
 # ---- refusals: each meets its own number and later ones, so that the order shows
 
 
@@ -1067,6 +1181,51 @@ def cpuid_refusals(s):
             expect(f"cpuid-{name}", s.cpuid(f"refusal-cpuid-{name}-{leaf}", leaf, cpu=cpu), number)
 
 
+def ctr_refusals(s):
+    """1, 3, 4, 5, 18, 10 and 11, in this order, and nothing else."""
+
+    def machine(off=0, **fields):
+        return Machine(**{"count": 1, "features": model.ALL_FEATURES & ~off} | fields).to_bytes()
+
+    def refused(number, name, lent=machine(), h=bytes(48), counter=COUNTER, buffer=PLAIN, **fields):
+        if lent != s.machine:
+            s.lend(f"refusal-ctr-{name}-lend", lent)
+        expect(f"ctr-{name}", s.ctr(f"refusal-ctr-{name}", h, buffer, counter, **fields), number)
+
+    ts, no_control = CONTROL | model.CR0_TS, record(control=0)
+    refused(1, "count-0", bytes(model.MACHINE_SIZE), cpu=bytes(407))
+    refused(1, "features-64", machine(features=64), processor=1)
+    refused(1, "pending-2", machine(pending=2), h=b"", cpu=no_control)
+    refused(3, "processor-1", processor=1, cpu=bytes(407))
+    refused(3, "processor-255", processor=255, h=b"")
+    refused(4, "cpu-0", cpu=b"", h=b"")
+    refused(4, "cpu-407", cpu=bytes(407))
+    refused(4, "cpu-409", cpu=record(cpl=4) + bytes(1))
+    refused(5, "cpl-4", cpu=record(cpl=4, control=0), h=b"")
+    refused(5, "cpl-255", cpu=record(cpl=255), counter=b"")
+    refused(5, "control-bit-4", cpu=record(control=CONTROL | 16), buffer=bytes(65537))
+    refused(5, "control-bit-7", cpu=record(control=128), h=b"")
+    refused(5, "byte-402", cpu=no_control[:402] + bytes([1]) + bytes(5), h=b"")
+    refused(5, "byte-407", cpu=no_control[:407] + bytes([128]), h=b"")
+    for length in [0, 47, 49, 63, 65, 112]:
+        refused(18, f"handle-{length}", h=bytes(length), cpu=no_control)
+    for length in [0, 15, 17, 32]:
+        refused(18, f"counter-{length}", counter=bytes(length), cpu=no_control)
+    refused(18, "buffer-65537", buffer=bytes(65537), cpu=no_control)
+    refused(18, "buffer-65537-kl", machine(model.KL), buffer=bytes(65537))
+    for name, off, control in [
+        ("kl", model.KL, ts),
+        ("firmware", model.FIRMWARE, ts),
+        ("cr4-kl", 0, ts & ~model.CR4_KL),
+        ("osfxsr", 0, ts & ~model.CR4_OSFXSR),
+        ("em", 0, ts | model.CR0_EM),
+    ]:
+        refused(10, name, machine(off), cpu=record(control=control), h=bytes(64))
+    refused(11, "ts", cpu=record(control=ts))
+    refused(11, "ts-empty", cpu=record(control=ts, cpl=3), buffer=b"")
+    refused(0, "none", machine(model.WIDE | model.BACKUP | model.NO_BACKUP | model.RANDOM_SOURCE), cpu=record(cpl=3))
+
+
 def lent_records(s):
     """Records that no list of calls reaches: refused, or taken to the letter."""
     absent = Machine(count=2, features=model.ALL_FEATURES)
@@ -1148,6 +1307,7 @@ def refusals(s):
     feature_refusals(s)
     register_refusals(s)
     cpuid_refusals(s)
+    ctr_refusals(s)
     lent_records(s)
 
 
@@ -1158,6 +1318,7 @@ def scenarios():
     operands(s)
     address_size(s)
     values(s)
+    counter_calls(s)
     refusals(s)
     return s
 
@@ -1256,22 +1417,34 @@ def random_cpu(rng):
     return cpu
 
 
+def random_cpu_record(rng, cpu):
+    """Mostly of its length."""
+    record = bytes(cpu.bytes)
+    return often(rng, lambda: record, lambda: rng.choice([record[:407], record + b"\0", b""]), 0.98)
+
+
+def random_processor(rng, s):
+    return often(rng, lambda: rng.randrange(s.machine[0] or 1), lambda: rng.randrange(20), 0.97)
+
+
+def handle_of_processor(rng, s, processor):
+    entry = s.machine[2 + 51 * processor :][:50]
+    return random_handle(rng, IWKey.from_bytes(entry) if processor < 16 else A)
+
+
 def random_step(rng, s, name):
-    processor = often(rng, lambda: rng.randrange(s.machine[0] or 1), lambda: rng.randrange(20), 0.97)
+    processor = random_processor(rng, s)
     string = random_string(rng)
     cpu = random_cpu(rng)
     if not string and rng.random() < 0.5:
         cpu.bytes[401] = rng.randrange(16)
-    entry = s.machine[2 + 51 * processor :][:50]
-    h = random_handle(rng, IWKey.from_bytes(entry) if processor < 16 else A)
+    h = handle_of_processor(rng, s, processor)
     before = rng.randrange(64)
     memory = rng.randbytes(before) + h + rng.randbytes(rng.choice([0, 0, 16, 40]))
     memory = often(rng, lambda: memory, lambda: memory[: rng.randrange(len(memory))], 0.95)
     aim(rng, cpu, string, often(rng, lambda: before, lambda: rng.choice([*EDGES, 2**31 + before, 2**32 + before]) + rng.randrange(-1, 2)))
-    record = bytes(cpu.bytes)
-    record = often(rng, lambda: record, lambda: rng.choice([record[:407], record + b"\0", b""]), 0.99)
     data = rng.randbytes(often(rng, lambda: rng.choice([0, 48]), lambda: rng.randrange(60), 0.98))
-    s.step(name, string, processor, record, memory, data)
+    s.step(name, string, processor, random_cpu_record(rng, cpu), memory, data)
 
 
 def random_cpuid(rng, s, name):
@@ -1280,14 +1453,26 @@ def random_cpuid(rng, s, name):
     cpu = random_cpu(rng)
     if rng.random() < 0.5:
         cpu.bytes[401] = rng.randrange(16)
-    record = bytes(cpu.bytes)
-    s.cpuid(name, leaf, subleaf, often(rng, lambda: record, lambda: rng.choice([record[:407], record + b"\0", b""]), 0.97))
+    s.cpuid(name, leaf, subleaf, random_cpu_record(rng, cpu))
+
+
+def random_ctr(rng, s, name):
+    processor = random_processor(rng, s)
+    h = handle_of_processor(rng, s, processor)
+    h = often(rng, lambda: h, lambda: rng.choice([h[:-1], h + b"\0", h[:48], b""]), 0.97)
+    carries = rng.randrange(16)
+    counter = rng.randbytes(15 - carries) + b"\xff" * carries + bytes([rng.choice([0, 255, rng.randrange(240, 256)])])
+    counter = often(rng, lambda: counter, lambda: rng.choice([counter[:15], counter + b"\0", b""]), 0.98)
+    length = rng.choice([rng.randrange(40), rng.randrange(201), rng.randrange(370, 700)])
+    length = often(rng, lambda: length, lambda: 65537, 0.98)
+    buffer = rng.randbytes(min(length, 200)).ljust(length, b"\0")
+    s.ctr(name, h, buffer, counter, processor, random_cpu_record(rng, random_cpu(rng)))
 
 
 def random_call(rng, s, name):
     processor = often(rng, lambda: rng.randrange(s.machine[0] or 1), lambda: rng.randrange(256), 0.95)
     cpl = often(rng, lambda: 0, lambda: rng.randrange(6), 0.95)
-    kinds = {"step": 30, "write": 10, "read": 4, "cpuid": 4, "settle": 4, "taken": 4, "sleep": 3, "reset": 1, "lend": 4, "power-on": 1}
+    kinds = {"step": 30, "write": 10, "read": 4, "cpuid": 4, "ctr": 8, "settle": 4, "taken": 4, "sleep": 3, "reset": 1, "lend": 4, "power-on": 1}
     kind = rng.choices(list(kinds), kinds.values())[0]
     if kind == "step":
         random_step(rng, s, name)
@@ -1298,6 +1483,8 @@ def random_call(rng, s, name):
         s.read(name, processor, often(rng, lambda: rng.choice([0x990, 0x991]), lambda: rng.choice([0xD91, 0xD92, rng.getrandbits(32)])), cpl)
     elif kind == "cpuid":
         random_cpuid(rng, s, name)
+    elif kind == "ctr":
+        random_ctr(rng, s, name)
     elif kind == "settle":
         s.settle(name, often(rng, lambda: rng.randrange(2), lambda: rng.randrange(256)))
     elif kind == "taken":

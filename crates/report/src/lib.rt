@@ -71,7 +71,8 @@ pub fn print_kind(kind: u8) {
         6 => print(b" step"),
         7 => print(b" lend"),
         8 => print(b" cpuid"),
-        _ => print(b" taken"),
+        9 => print(b" taken"),
+        _ => print(b" ctr"),
     }
 }
 

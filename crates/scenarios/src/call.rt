@@ -1,10 +1,11 @@
 // A call's bytes: its kind, a processor (or the count, or a code), a CPL (or the features), one left free, an address (or a leaf; 4 bytes) and a value (or
 // a subleaf; 8), the lengths of CPU record, memory, random data and string (2 each), numbers with the highest byte first. From 24 on the CPU record, from
 // 440 the memory, from 696 the random data, from 760 the string; or from 24 on a machine record, which takes the place of the machine at hand.
-// Kinds are those of print_kind.
+// Kinds are those of print_kind; ctr.rt says where a counter call has its bytes.
 ghost use mathlib.Core.Path.{_≡_};
 ghost use Prim.Native.Nat.{_≤_};
 ghost use lib.ListN.{length};
+use crate::ctr::ctr;
 use layout::read_machine;
 use lent::Stepped;
 use lent::step_through;
@@ -23,7 +24,7 @@ use report::word;
 use step::Answer;
 
 // 0, or the number of the refusal; answers whether there was none.
-fn print_answer(answer: Answer) -> bool {
+pub fn print_answer(answer: Answer) -> bool {
     print(b" ");
     match answer {
         Answer::Done => {
@@ -37,7 +38,7 @@ fn print_answer(answer: Answer) -> bool {
     }
 }
 
-// All calls but step and CPUID.
+// All calls but step, CPUID and those of ctr.rt.
 fn outcome(m: Machine, a: [u8; 960]) -> Outcome {
     let x = a[1];
     let y = a[2];
@@ -66,21 +67,30 @@ fn other(m: Machine, a: [u8; 960]) -> Machine {
     after
 }
 
-// Two bytes as a length, at most what there is room for.
-fn length_at(a: &[u8], at: usize, most: usize) -> usize
+pub fn at_most(n: usize, most: usize) -> usize
     ensures { λ r. ⌜ r ≤ most ⌝ }
 {
-    let n = (word(a, at) / 65536) as usize;
     if n < most {
         return n;
     }
     most
 }
 
+// Two bytes as a length, at most what there is room for.
+pub fn length_at(a: &[u8], at: usize, most: usize) -> usize
+    ensures { λ r. ⌜ r ≤ most ⌝ }
+{
+    at_most((word(a, at) / 65536) as usize, most)
+}
+
+pub fn print_zf(cpu: &[u8]) {
+    print(b" zf ");
+    print_decimal(word(cpu, 392) as u64 / 1073741824 % 2);
+}
+
 // ZF, XMM0, and all that changed.
 fn print_cpu(old: &[u8], new: &[u8]) {
-    print(b" zf ");
-    print_decimal(word(new, 392) as u64 / 1073741824 % 2);
+    print_zf(new);
     print(b" xmm0 ");
     print_word(word(new, 0));
     print_word(word(new, 4));
@@ -141,7 +151,11 @@ fn call(m: Machine, text: &[u8]) -> Machine {
             cpuid(m, &a);
             m
         }
-        _ => other(m, a),
+        9 => other(m, a),
+        _ => {
+            ctr(m, a);
+            m
+        }
     }
 }
 

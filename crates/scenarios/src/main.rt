@@ -1,15 +1,16 @@
 // Calls of the emulated machine through the proved code, by value: each line of standard input is a call, and is answered by one line.
 mod call;
+mod ctr;
 
 ghost use mathlib.Core.Path.{_≡_};
 ghost use lib.ListN.{length};
 use libc::STDIN_FILENO;
 
 // How many characters are read at most.
-fn room() -> [u8; 131072]
-    ensures { λ r. ⌜ 131072 ≡ length r ⌝ }
+fn room() -> [u8; 196608]
+    ensures { λ r. ⌜ 196608 ≡ length r ⌝ }
 {
-    [0; 131072]
+    [0; 196608]
 }
 
 fn main() {
