@@ -1,7 +1,7 @@
 -- Counter blocks side by side, enciphered as blocks, and data masked with them.
 -- Assumes nothing.
 use mathlib.Core.Path.{_≡_, refl, sym, ap, ap₂, _∙_}
-use mathlib.Core.List.{List, [], _++_, append-assoc, append-nil, flatMap}
+use mathlib.Core.List.{List, [], _∷_, _++_, append-nil, flatMap}
 use Prim.Native.Nat.{ℕ, zero, suc, _+_, _*_, _/_, _≤_}
 use native.Mathlib.Nat.{zero-add}
 use native.Mathlib.Omega.{arith}
@@ -9,10 +9,16 @@ use lib.ListN.{length, take, drop, length-append, length-drop}
 use lib.Seq.{sets, sets-eq, take-at, drop-at, drop-drop}
 use Rattle.bits.specs.Blocks.{mapBlocks}
 use Rattle.bits.specs.Bytes.{xorBytes}
-use Rattle.bits.proofs.Lists.{no-elements}
+use Rattle.bits.proofs.Lists.{cons, no-elements}
 use Rattle.sp800_38a.specs.Counter.{counterAt, counters, outputBlocks, ctr}
 use Rattle.sp800_38a.proofs.Counters.{counter-length}
 use Rattle.sp800_38a.proofs.Ctr.{output-length, output-append}
+
+-- of a mask no more counts than there are data
+xor-taken : (s k : List ℕ) → xorBytes s (take (length s) k) ≡ xorBytes s k
+xor-taken [] k = refl
+xor-taken (a ∷ s) [] = refl
+xor-taken (a ∷ s) (b ∷ k) = cons refl (xor-taken s k)
 
 -- n counter blocks as they stand, from the one i behind c on
 abbrev side : List ℕ → ℕ → ℕ → List ℕ
@@ -46,12 +52,11 @@ module _ (c : List ℕ) (sixteen : length c ≡ 16) where
       ∙ ap (λ (k : ℕ). take (16 * n) l ++ b ++ drop k l) ends
       ∙ ap₂ (λ (x y : List ℕ). x ++ y) (ap₂ (λ (x y : List ℕ). x ++ y) front at ∙ sym (side-more n)) behind
 
-  pub counters-all : (s : List ℕ) → length s ≡ 128 → (i : ℕ) {l : List ℕ} → i ≡ 8 → l ≡ side c 0 i ++ drop (16 * i) s → l ≡ side c 0 8
-  counters-all s h i e inv =
+  pub counters-all : (s : List ℕ) (n : ℕ) {l : List ℕ} → length s ≡ 16 * n → l ≡ side c 0 n ++ drop (16 * n) s → l ≡ side c 0 n
+  counters-all s n h inv =
       inv
-      ∙ ap (λ (k : ℕ). side c 0 k ++ drop (16 * k) s) e
-      ∙ ap (λ (w : List ℕ). side c 0 8 ++ w) (no-elements (drop 128 s) (length-drop 128 s ∙ omega arith))
-      ∙ append-nil (side c 0 8)
+      ∙ ap (λ (w : List ℕ). side c 0 n ++ w) (no-elements (drop (16 * n) s) (length-drop (16 * n) s ∙ omega arith))
+      ∙ append-nil (side c 0 n)
 
   -- enciphered where they stand
   side-ciphered : (f : List ℕ → List ℕ) (i n : ℕ) → mapBlocks f n (side c i n) ≡ outputBlocks f c i n
@@ -63,9 +68,17 @@ module _ (c : List ℕ) (sixteen : length c ≡ 16) where
       ∙ ap (λ (w : List ℕ). f (counterAt c i) ++ w) (side-ciphered f (i + 1) n)
 
   -- a group of eight
-  pub group-masked : (f : List ℕ → List ℕ) (s : List ℕ) {p q l : List ℕ} → length s ≡ 128 → p ≡ side c 0 8 → q ≡ mapBlocks f 8 p → l ≡ xorBytes s q
-      → l ≡ ctr f c s
+  pub group-masked : (f : List ℕ → List ℕ) (s : List ℕ) {p q l : List ℕ} → length s ≡ 128 → p ≡ side c 0 8 → q ≡ mapBlocks f 8 p → l ≡ xorBytes s q → l ≡ ctr f c s
   unfolding ctr
   group-masked f s h put made left =
       let eight : 8 ≡ (length s + 15) / 16 = omega arith in
       left ∙ ap (xorBytes s) (made ∙ ap (mapBlocks f 8) put ∙ side-ciphered f 0 8) ∙ ap (λ (n : ℕ). xorBytes s (outputBlocks f c 0 n)) eight
+
+  -- any number of bytes: p is put beside them, q made of it, and of that the first bytes are XORed
+  pub all-masked : (f : List ℕ → List ℕ) (s : List ℕ) (n k : ℕ) {p q l : List ℕ} → n ≡ (length s + 15) / 16 → k ≡ n → p ≡ side c 0 n → q ≡ mapBlocks f k p
+      → l ≡ xorBytes s (take (length s) q) → l ≡ ctr f c s
+  unfolding ctr
+  all-masked f s n k {p} {q} en ek put made left =
+      left
+      ∙ xor-taken s q
+      ∙ ap (xorBytes s) (made ∙ ap₂ (mapBlocks f) ek put ∙ side-ciphered f 0 n ∙ ap (outputBlocks f c 0) en)

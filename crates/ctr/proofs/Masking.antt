@@ -34,23 +34,6 @@ stored-length l v i e = ap length e ∙ length-sets l i v
 pub part-length : (l : List ℕ) (at n : ℕ) → at + n ≤ length l → length (take n (drop at l)) ≡ n
 part-length l at n h = length-take-le n (drop at l) (simp length-drop (omega arith))
 
--- of a mask no more counts than there are data
-pub xor-taken : (s k : List ℕ) → xorBytes s (take (length s) k) ≡ xorBytes s k
-xor-taken [] k = refl
-xor-taken (a ∷ s) [] = refl
-xor-taken (a ∷ s) (b ∷ k) = cons refl (xor-taken s k)
-
--- no data
-pub no-data : (f : List ℕ → List ℕ) (c s : List ℕ) → length s ≡ 0 → s ≡ ctr f c s
-unfolding ctr
-no-data f c s e = no-elements s e ∙ sym (ap (ctr f c) (no-elements s e))
-
--- less than a block
-pub short-data : (f : List ℕ → List ℕ) → ((b : List ℕ) → length (f b) ≡ 16) → (c s : List ℕ) {k m l : List ℕ} → Bytes c → length s < 16 → k ≡ f c
-    → m ≡ take (length s) k → l ≡ xorBytes s m → l ≡ ctr f c s
-short-data f whole c s {k} bytes h key first left =
-    left ∙ ap (xorBytes s) first ∙ xor-taken s k ∙ ap (xorBytes s) key ∙ sym (ctr-block f whole c bytes s (omega arith))
-
 -- ---- data masked
 
 -- the first i blocks of s are masked, from the counter block c on

@@ -2,7 +2,7 @@
 // holds; four tables made from it do the same in less time.
 ghost use mathlib.Core.Path.{_≡_};
 ghost use mathlib.Core.List.{List};
-ghost use Prim.Native.Nat.{ℕ, _*_, _/_, _%_, _≤_, _<_};
+ghost use Prim.Native.Nat.{ℕ, _+_, _*_, _/_, _%_, _≤_};
 ghost use lib.ListN.{length};
 ghost use Rattle.fips197.specs.Sizes.{nr};
 ghost use Rattle.aes.specs.Meaning.{bytesOf, schedule};
@@ -18,10 +18,9 @@ use crate::counting::next;
 use aes::Block;
 use aes::word::block_at;
 use aes::word::put_block;
-use aes::word::to_bytes;
 use aes::xor::xor_block;
 use aes::xor::xor_in;
-use aes_blocks::encrypt_block_with;
+use aes_blocks::encrypt_blocks_with;
 use aes_ttables::encrypt_block;
 use aes_ttables::encrypt_eight;
 use aes_ttables::tables::fill_tables;
@@ -36,28 +35,19 @@ pub(crate) struct Counter {
 // Four tables pay for themselves from so many bytes on.
 const TABLES_FROM: usize = 384;
 
-// ---- whole blocks singly, by one table and by four; the counter block behind them is given back
+// ---- counter blocks
 
-fn mask_blocks(
-    mixed: &[u32; 256],
-    sbox: &[u8; 256],
-    size: KeySize,
-    w: &[u32; 60],
-    c: Block,
-    bytes: &mut [u8],
-) -> Block
-    requires { ⌜ length (now bytes) % 16 ≡ 0 ⌝ }
-    ensures { λ _. ⌜ now (bytes .exit) ≡ ctr (tableCipher (now (mixed .entry)) (now (sbox .entry)) (schedule size (now (w .entry))) (nr size)) (bytesOf c) (now (bytes .entry)) ⌝ }
-    ensures { λ r. ⌜ bytesOf r ≡ counterAt (bytesOf c) (length (now (bytes .entry)) / 16) ⌝ }
+// As many as there is room for; the one behind them is given back.
+fn put_counters(s: &mut [u8], c: Block) -> Block
+    requires { ⌜ length (now s) % 16 ≡ 0 ⌝ }
+    ensures { λ _. ⌜ now (s .exit) ≡ outputBlocks (λ b. b) (bytesOf c) 0 (length (now (s .entry)) / 16) ⌝ }
+    ensures { λ r. ⌜ bytesOf r ≡ counterAt (bytesOf c) (length (now (s .entry)) / 16) ⌝ }
 {
-    let count = bytes.len() / 16;
+    let count = s.len() / 16;
     let mut counter = counter_of(c);
     let mut i: usize = 0;
     while i < count {
-        let at = 16 * i;
-        let stream = encrypt_block_with(mixed, sbox, size, w, block_of(counter));
-        let b = xor_block(block_at(bytes, at), stream);
-        put_block(bytes, at, b);
+        put_block(s, 16 * i, block_of(counter));
         let behind = next(counter);
         counter = behind;
         i += 1;
@@ -65,7 +55,9 @@ fn mask_blocks(
     block_of(counter)
 }
 
-fn mask_blocks_by_four(
+// ---- whole blocks singly; the counter block behind them is given back
+
+fn mask_blocks(
     tables: &[u32; 1024],
     sbox: &[u8; 256],
     size: KeySize,
@@ -93,23 +85,6 @@ fn mask_blocks_by_four(
 }
 
 // ---- groups of eight
-
-// Eight counter blocks; the one behind them is given back.
-fn put_counters(s: &mut [u8], c: Block) -> Block
-    requires { ⌜ length (now s) ≡ 128 ⌝ }
-    ensures { λ _. ⌜ now (s .exit) ≡ outputBlocks (λ b. b) (bytesOf c) 0 8 ⌝ }
-    ensures { λ r. ⌜ bytesOf r ≡ counterAt (bytesOf c) 8 ⌝ }
-{
-    let mut counter = counter_of(c);
-    let mut i: usize = 0;
-    while i < 8 {
-        put_block(s, 16 * i, block_of(counter));
-        let behind = next(counter);
-        counter = behind;
-        i += 1;
-    }
-    block_of(counter)
-}
 
 // The counter blocks are enciphered together, as a wide form does it.
 fn mask_group(
@@ -156,29 +131,26 @@ fn mask_groups(
     counter
 }
 
-// ---- the end
+// ---- few bytes
 
-// Less than a block: the first bytes of the enciphered counter block.
-fn mask_end(
+// By one table, with the counter blocks side by side in a lent place. A short end has the first bytes of its block.
+fn mask_beside(
     mixed: &[u32; 256],
     sbox: &[u8; 256],
     size: KeySize,
     w: &[u32; 60],
     c: Block,
+    stream: &mut [u8],
     bytes: &mut [u8],
 )
-    requires { ⌜ length (now bytes) < 16 ⌝ }
+    requires { ⌜ length (now stream) ≡ (length (now bytes) + 15) / 16 * 16 ⌝ }
     ensures { λ _. ⌜ now (bytes .exit) ≡ ctr (tableCipher (now (mixed .entry)) (now (sbox .entry)) (schedule size (now (w .entry))) (nr size)) (bytesOf c) (now (bytes .entry)) ⌝ }
 {
+    put_counters(stream, c);
+    encrypt_blocks_with(mixed, sbox, size, w, stream);
     let n = bytes.len();
-    if n == 0 {
-        return;
-    }
-    let stream = to_bytes(encrypt_block_with(mixed, sbox, size, w, c));
     xor_in(bytes, &stream[..n]);
 }
-
-// ---- all
 
 fn mask_short(
     mixed: &[u32; 256],
@@ -188,12 +160,15 @@ fn mask_short(
     c: Block,
     bytes: &mut [u8],
 )
+    requires { ⌜ length (now bytes) ≤ 384 ⌝ }
     ensures { λ _. ⌜ now (bytes .exit) ≡ ctr (tableCipher (now (mixed .entry)) (now (sbox .entry)) (schedule size (now (w .entry))) (nr size)) (bytesOf c) (now (bytes .entry)) ⌝ }
 {
-    let whole = bytes.len() / 16 * 16;
-    let next = mask_blocks(mixed, sbox, size, w, c, &mut bytes[..whole]);
-    mask_end(mixed, sbox, size, w, next, &mut bytes[whole..]);
+    let m = (bytes.len() + 15) / 16 * 16;
+    let mut stream = [0u8; 384];
+    mask_beside(mixed, sbox, size, w, c, &mut stream[..m], bytes);
 }
+
+// ---- all
 
 // How many of the bytes go by groups of eight blocks.
 fn grouped(wide: bool, bytes: usize) -> usize
@@ -218,8 +193,8 @@ fn mask_long(
     let whole = bytes.len() / 16 * 16;
     let groups = grouped(wide, whole);
     let behind = mask_groups(&tables, sbox, size, w, c, &mut bytes[..groups]);
-    let next = mask_blocks_by_four(&tables, sbox, size, w, behind, &mut bytes[groups..whole]);
-    mask_end(mixed, sbox, size, w, next, &mut bytes[whole..]);
+    let next = mask_blocks(&tables, sbox, size, w, behind, &mut bytes[groups..whole]);
+    mask_short(mixed, sbox, size, w, next, &mut bytes[whole..]);
 }
 
 // With the wide feature by groups of eight, without it singly: the result is the same.

@@ -10,6 +10,7 @@ use Rattle.aes.specs.Meaning.{bytesOf, schedule}
 use Rattle.aes.proofs.Tables.{block-bytes}
 use Rattle.aes_blocks.specs.TableCipher.{tableCipher}
 use Rattle.aes_blocks.proofs.TableCipher.{cipher-length}
+use Rattle.aes_ttables.specs.Turned.{Turned}
 use Rattle.sp800_38a.specs.Counter.{counterAt, ctr}
 use Rattle.ctr.specs.Meaning.{counterBytes}
 use Rattle.ctr.proofs.Masking.{first-counter, counted, stored-length, Masked, masked-none, masked-stored, masked-all}
@@ -18,18 +19,18 @@ use Rattle.ctr.proofs.mask_blocks.Statement.{statement}
 use Rattle.ctr.proofs.mask_blocks.Tie as tie
 
 abbrev Inv-loop : tie.InvT-loop
-Inv-loop mixed sbox size w bytes₀ count counter₀ i₀ bytes counter i =
+Inv-loop tables sbox size w bytes₀ count counter₀ i₀ bytes counter i =
     (16 * i ≤ length bytes₀) × (length bytes ≡ length bytes₀) × (counterBytes counter ≡ counterAt (counterBytes counter₀) i)
-    × Masked (tableCipher mixed sbox (schedule size w) (nr size)) (counterBytes counter₀) bytes₀ i bytes
+    × ((t : List ℕ) → Turned t tables → Masked (tableCipher t sbox (schedule size w) (nr size)) (counterBytes counter₀) bytes₀ i bytes)
 
 abbrev μ-loop : tie.MeasureT-loop
-μ-loop mixed sbox size w bytes₀ count counter₀ i₀ bytes counter i = count - i
+μ-loop tables sbox size w bytes₀ count counter₀ i₀ bytes counter i = count - i
 
 counter-of-requires : tie.Need-counter-of-requires Inv-loop μ-loop
 counter-of-requires c κs = search needs
 
 loop-holds : tie.Need-loop-holds Inv-loop μ-loop
-loop-holds c = (search needs, refl, first-counter (c .before .before .args .c) (c .counter-of .ensures), masked-none _ _ _)
+loop-holds c = (search needs, refl, first-counter (c .before .before .args .c) (c .counter-of .ensures), λ t rule. masked-none _ _ _)
 
 mul-at : tie.Need-mul-at Inv-loop μ-loop
 mul-at c = search needs
@@ -37,8 +38,8 @@ mul-at c = search needs
 block-of-requires : tie.Need-block-of-requires Inv-loop μ-loop
 block-of-requires c κs = search needs
 
-encrypt-block-with-requires : tie.Need-encrypt-block-with-requires Inv-loop μ-loop
-encrypt-block-with-requires c κs = search needs
+encrypt-block-requires : tie.Need-encrypt-block-requires Inv-loop μ-loop
+encrypt-block-requires c κs = search needs
 
 block-at-requires : tie.Need-block-at-requires Inv-loop μ-loop
 block-at-requires c κs = search needs
@@ -77,8 +78,8 @@ loop-again c =
       omega (arith, st .pre),
       stored-length (at-loop .loop .bytes) (bytesOf (xor .xor-block .result)) _ (put .put-block .ensures) ∙ inv .1,
       counted c₀ i 1 (i + 1) refl (inv .2) (c .next .ensures),
-      masked-stored (tableCipher (a .mixed .now) (a .sbox .now) (schedule (a .size) (a .w .now)) (nr (a .size))) (cipher-length (a .mixed .now) _ _ _) c₀ (a .bytes .now) i (inv .0) (inv .3) (block-bytes (block .block-of .result)) (omega (arith, st .pre))
-          (block .block-of .ensures ∙ inv .2) (read .block-at .ensures) (enc .encrypt-block-with .ensures) (xor .xor-block .ensures) (put .put-block .ensures),
+      λ t rule. masked-stored (tableCipher t (a .sbox .now) (schedule (a .size) (a .w .now)) (nr (a .size))) (cipher-length t _ _ _) c₀ (a .bytes .now) i (inv .0) (inv .3 t rule) (block-bytes (block .block-of .result)) (omega (arith, st .pre))
+          (block .block-of .ensures ∙ inv .2) (read .block-at .ensures) (enc .encrypt-block .ensures t rule) (xor .xor-block .ensures) (put .put-block .ensures),
     )
 
 block-of-requires-2 : tie.Need-block-of-requires-2 Inv-loop μ-loop
@@ -98,7 +99,7 @@ returns c =
     let all : length (a .bytes .now) ≡ 16 * i = omega (arith, st .pre) in
     let end : i ≡ length (a .bytes .now) / 16 = omega arith in
     let start = made .counter-of .ensures in (
-      masked-all (tableCipher (a .mixed .now) (a .sbox .now) (schedule (a .size) (a .w .now)) (nr (a .size))) (cipher-length (a .mixed .now) _ _ _) _ (a .bytes .now) i (inv .0) (inv .3) all ∙ ap (λ (b : List ℕ). ctr (tableCipher (a .mixed .now) (a .sbox .now) (schedule (a .size) (a .w .now)) (nr (a .size))) b (a .bytes .now)) start,
+      λ t rule. masked-all (tableCipher t (a .sbox .now) (schedule (a .size) (a .w .now)) (nr (a .size))) (cipher-length t _ _ _) _ (a .bytes .now) i (inv .0) (inv .3 t rule) all ∙ ap (λ (b : List ℕ). ctr (tableCipher t (a .sbox .now) (schedule (a .size) (a .w .now)) (nr (a .size))) b (a .bytes .now)) start,
       c .block-of2 .ensures ∙ inv .2 ∙ ap₂ counterAt start end,
     )
 
@@ -112,7 +113,7 @@ mask-blocks-spec =
     loop-holds
     mul-at
     block-of-requires
-    encrypt-block-with-requires
+    encrypt-block-requires
     block-at-requires
     xor-block-requires
     put-block-requires

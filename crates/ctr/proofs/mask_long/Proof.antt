@@ -39,29 +39,29 @@ slice-aggregate-mask-groups c = sym (groups-part (c .before .before))
 mask-groups-requires : tie.Need-mask-groups-requires
 mask-groups-requires c κs = ap (λ (n : ℕ). n % 128) (groups-part (c .before .before)) ∙ c .before .before .grouped .ensures .0
 
-sub-mask-blocks-by-four : tie.Need-sub-mask-blocks-by-four
-sub-mask-blocks-by-four c = search needs
+sub-mask-blocks : tie.Need-sub-mask-blocks
+sub-mask-blocks c = search needs
 
-part-mask-blocks-by-four-start : tie.Need-part-mask-blocks-by-four-start
-part-mask-blocks-by-four-start c = search needs
+part-mask-blocks-start : tie.Need-part-mask-blocks-start
+part-mask-blocks-start c = search needs
 
-part-mask-blocks-by-four-end : tie.Need-part-mask-blocks-by-four-end
-part-mask-blocks-by-four-end c = search needs
+part-mask-blocks-end : tie.Need-part-mask-blocks-end
+part-mask-blocks-end c = search needs
 
-mask-blocks-by-four-requires : tie.Need-mask-blocks-by-four-requires
-mask-blocks-by-four-requires c κs = search needs
+mask-blocks-requires : tie.Need-mask-blocks-requires
+mask-blocks-requires c κs = search needs
 
-sub-mask-end : tie.Need-sub-mask-end
-sub-mask-end c = search needs
+sub-mask-short : tie.Need-sub-mask-short
+sub-mask-short c = search needs
 
-part-mask-end-start : tie.Need-part-mask-end-start
-part-mask-end-start c = search needs
+part-mask-short-start : tie.Need-part-mask-short-start
+part-mask-short-start c = search needs
 
-part-mask-end-end : tie.Need-part-mask-end-end
-part-mask-end-end c = search needs
+part-mask-short-end : tie.Need-part-mask-short-end
+part-mask-short-end c = search needs
 
-mask-end-requires : tie.Need-mask-end-requires
-mask-end-requires c κs = search needs
+mask-short-requires : tie.Need-mask-short-requires
+mask-short-requires c κs = search needs
 
 same-length : tie.Need-same-length
 same-length c = search needs
@@ -89,12 +89,12 @@ returns c =
     = groups .mask-groups .ensures .1 ∙ ap (λ (j : ℕ). counterAt (bytesOf (a .c)) (j / 16)) (groups-part chosen) in
     let long = masked-length f (cipher-length _ _ _ _) (bytesOf (a .c)) s (g / 16) (omega arith) first in
     let all = masked-more f (cipher-length _ _ _ _) (bytesOf (a .c)) s (g / 16) (omega arith) first (k / 16) n g k e (omega arith) (sym m) (omega arith) behind
-    (four .mask-blocks-by-four .ensures .0 (a .mixed .now) rule) refl in
-    let next : bytesOf (four .mask-blocks-by-four .result) ≡ counterAt (bytesOf (a .c)) n
+    (four .mask-blocks .ensures .0 (a .mixed .now) rule) refl in
+    let next : bytesOf (four .mask-blocks .result) ≡ counterAt (bytesOf (a .c)) n
     = counted (bytesOf (a .c)) (g / 16) (k / 16) n (sym m) behind
-    (four .mask-blocks-by-four .ensures .1
+    (four .mask-blocks .ensures .1
     ∙ ap (λ (j : ℕ). counterAt (bytesOf (groups .mask-groups .result)) (j / 16)) (part-length _ g k (omega (arith, long)))) in
-    masked-end f (cipher-length _ _ _ _) (bytesOf (a .c)) s n (omega arith) all (n * 16) _ (omega arith) refl next (end .mask-end .ensures) refl
+    masked-end f (cipher-length _ _ _ _) (bytesOf (a .c)) s n (omega arith) all (n * 16) _ (omega arith) refl next (end .mask-short .ensures) refl
 
 pub mask-long-spec : {M : Type 1} → statement M
 mask-long-spec =
@@ -106,13 +106,13 @@ mask-long-spec =
     slice-relend-prefix-mask-groups
     slice-aggregate-mask-groups
     mask-groups-requires
-    sub-mask-blocks-by-four
-    part-mask-blocks-by-four-start
-    part-mask-blocks-by-four-end
-    mask-blocks-by-four-requires
-    sub-mask-end
-    part-mask-end-start
-    part-mask-end-end
-    mask-end-requires
+    sub-mask-blocks
+    part-mask-blocks-start
+    part-mask-blocks-end
+    mask-blocks-requires
+    sub-mask-short
+    part-mask-short-start
+    part-mask-short-end
+    mask-short-requires
     same-length
     returns)

@@ -2,7 +2,7 @@
 -- Assumes nothing.
 use mathlib.Core.Path.{_≡_, refl, ap, ap₂, _∙_}
 use mathlib.Core.List.{List, _++_, flatMap}
-use Prim.Native.Nat.{ℕ, _+_, _-_, _*_, _≤_}
+use Prim.Native.Nat.{ℕ, _+_, _-_, _*_, _/_, _≤_}
 use native.Mathlib.Omega.{arith}
 use lib.ListN.{length, drop}
 use Rattle.aes.specs.Meaning.{bytesOf}
@@ -15,19 +15,19 @@ use Rattle.ctr.proofs.put_counters.Statement.{statement}
 use Rattle.ctr.proofs.put_counters.Tie as tie
 
 abbrev Inv-loop : tie.InvT-loop
-Inv-loop s₀ counter₀ i₀ s counter i =
-    (i ≤ 8) × (length s ≡ 128) × (counterBytes counter ≡ counterAt (counterBytes counter₀) i)
+Inv-loop s₀ count counter₀ i₀ s counter i =
+    (i ≤ count) × (length s ≡ length s₀) × (counterBytes counter ≡ counterAt (counterBytes counter₀) i)
     × (s ≡ outputBlocks (λ b. b) (counterBytes counter₀) 0 i ++ drop (16 * i) s₀)
 
 abbrev μ-loop : tie.MeasureT-loop
-μ-loop s₀ counter₀ i₀ s counter i = 8 - i
+μ-loop s₀ count counter₀ i₀ s counter i = count - i
 
 counter-of-requires : tie.Need-counter-of-requires Inv-loop μ-loop
 counter-of-requires c κs = search needs
 
 loop-holds : tie.Need-loop-holds Inv-loop μ-loop
 unfolding outputBlocks flatMap
-loop-holds c = (search needs, search needs, first-counter (c .before .before .args .c) (c .counter-of .ensures), refl)
+loop-holds c = (search needs, refl, first-counter (c .before .before .args .c) (c .counter-of .ensures), refl)
 
 mul-put-block : tie.Need-mul-put-block Inv-loop μ-loop
 mul-put-block c = search needs
@@ -76,9 +76,9 @@ returns c =
     let made = at-loop .before in
     let st = made .before .before in
     let inv = at-loop .loop .inv in
-    let end : at-loop .loop .i ≡ 8 = omega arith in
+    let end : at-loop .loop .i ≡ length (st .args .s .now) / 16 = omega arith in
     let start = made .counter-of .ensures in (
-      counters-all _ (ap length start) (st .args .s .now) (st .pre) (at-loop .loop .i) end (inv .3) ∙ ap (λ (b : List ℕ). outputBlocks (λ b. b) b 0 8) start,
+      counters-all _ (ap length start) (st .args .s .now) (at-loop .loop .i) (omega (arith, st .pre)) (inv .3) ∙ ap₂ (λ (b : List ℕ) (n : ℕ). outputBlocks (λ b. b) b 0 n) start end,
       c .block-of2 .ensures ∙ inv .2 ∙ ap₂ counterAt start end,
     )
 
