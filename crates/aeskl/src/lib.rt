@@ -18,7 +18,6 @@ use aes::word::from_bytes;
 use aes::word::key_from_bytes;
 use aes_blocks::encrypt_block_with;
 use aes_blocks::encrypt_blocks_with;
-use aes_blocks::tables::mix_table;
 use aes_inv_blocks::decrypt_block_with;
 use aes_inv_blocks::decrypt_blocks_with;
 use aes_key::expand_with;
@@ -30,8 +29,8 @@ use fips197::KeySize;
 use keywrap::Handle;
 use keywrap::Unwrapped;
 use keywrap::siv::unwrap_with;
+use keywrap::tables::cipher_tables;
 use model::IwKey;
-use sbox::sbox_table;
 
 fn forbids(direction: Direction, restrictions: u32) -> bool
     ensures { λ r. ⌜ r ≡ instructions.forbids direction restrictions ⌝ }
@@ -156,9 +155,9 @@ fn used_block(
     if illegal(cpl, size, direction, h.aad) {
         UsedBlock { zf: true, block }
     } else {
-        let sbox = sbox_table();
+        let mut sbox = [0u8; 256];
         let mut mixed = [0u32; 256];
-        mix_table(&sbox, &mut mixed);
+        cipher_tables(&mut mixed, &mut sbox);
         let Unwrapped::Key(key) = unwrapped_by(&mixed, &sbox, k, size, h) else {
             return UsedBlock { zf: true, block };
         };
@@ -184,9 +183,9 @@ fn used_blocks(
     if illegal(cpl, size, direction, h.aad) {
         return UsedBlocks { zf: true, blocks };
     }
-    let sbox = sbox_table();
+    let mut sbox = [0u8; 256];
     let mut mixed = [0u32; 256];
-    mix_table(&sbox, &mut mixed);
+    cipher_tables(&mut mixed, &mut sbox);
     let Unwrapped::Key(key) = unwrapped_by(&mixed, &sbox, k, size, h) else {
         return UsedBlocks { zf: true, blocks };
     };

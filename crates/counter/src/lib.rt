@@ -18,7 +18,6 @@ ghost use Rattle.model.specs.Refusals.{invalidOpcode, noMath, badSize, refusal}
 ghost use Rattle.counter.specs.Meaning.{usedBuffer, left, leftOf};
 use aes::Block;
 use aes::word::block_at;
-use aes_blocks::tables::mix_table;
 use aes_key::expand_with;
 use aeskl::illegal;
 use aeskl::unwrapped_by;
@@ -32,13 +31,13 @@ use fips197::KeySize;
 use instructions::handle_at;
 use keywrap::Handle;
 use keywrap::Unwrapped;
+use keywrap::tables::cipher_tables;
 use model::IwKey;
 use model::Machine;
 use model::WIDE_FORMS;
 use refusals::cpuid_refusal;
 use refusals::invalid_opcode;
 use refusals::no_math;
-use sbox::sbox_table;
 use step::Answer;
 use validity::valid;
 
@@ -112,9 +111,9 @@ fn used_buffer(
     if illegal(cpl, size, Direction::Encrypt, h.aad) {
         return true;
     }
-    let sbox = sbox_table();
+    let mut sbox = [0u8; 256];
     let mut mixed = [0u32; 256];
-    mix_table(&sbox, &mut mixed);
+    cipher_tables(&mut mixed, &mut sbox);
     let Unwrapped::Key(key) = unwrapped_by(&mixed, &sbox, k, size, h) else {
         return true;
     };

@@ -4,6 +4,7 @@ use aes::Key;
 
 mod hash;
 pub mod siv;
+pub mod tables;
 
 // A handle: for a key of 128 bits the high half of the ciphertext is not read.
 pub struct Handle {

@@ -16,14 +16,13 @@ ghost use Rattle.keywrap.specs.Meaning.{handleBytes, wholeKey, wholeHand
 use crate::Handle;
 use crate::Unwrapped;
 use crate::hash::hashed;
+use crate::tables::cipher_tables;
 use aes::Block;
 use aes::Key;
 use aes::xor::xor_block;
 use aes_blocks::encrypt_block_with;
-use aes_blocks::tables::mix_table;
 use aes_key::expand_with;
 use fips197::KeySize;
-use sbox::sbox_table;
 
 fn clear_top(b: Block) -> Block
     ensures { λ r. ⌜ bytesOf r ≡ handle.clearTop (bytesOf b) ⌝ }
@@ -125,9 +124,9 @@ fn mask_with(
 pub fn wrap(size: KeySize, integrity: Block, encryption: Key, aad: Block, key: Key) -> Handle
     ensures { λ r. ⌜ wholeHandle r ≡ padded 64 (wrapKey (bytesOf integrity) (keyBytes Aes256 encryption) (bytesOf aad) (keyBytes size key)) ⌝ }
 {
-    let sbox = sbox_table();
+    let mut sbox = [0u8; 256];
     let mut mixed = [0u32; 256];
-    mix_table(&sbox, &mut mixed);
+    cipher_tables(&mut mixed, &mut sbox);
     let w = expand_with(&sbox, KeySize::Aes256, encryption);
     let tag = tag_with(&mixed, &sbox, &w, integrity, aad, size, key);
     let ciphertext = mask_with(&mixed, &sbox, &w, tag, size, key);

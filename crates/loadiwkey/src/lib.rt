@@ -1,13 +1,22 @@
 // LOADIWKEY (Intel 343965-001US 3.12), over one IWKey and the CPU record.
 ghost use mathlib.Core.Path.{_≡_};
+ghost use mathlib.Core.List.{_++_};
+ghost use Prim.Native.Nat.{_≤_};
 ghost use lib.ListN.{length};
+ghost use Rattle.bits.specs.Bytes.{xorBytes};
+ghost use Rattle.aes.specs.Meaning.{bytesOf};
 ghost use Rattle.model.specs.Cpu.{cpuSize};
 ghost use Rattle.model.specs.Forms.{keySource, noBackup};
 ghost use Rattle.model.specs.Instructions as instructions;
+ghost use Rattle.model.specs.Numbers.{part};
 ghost use Rattle.loadiwkey.specs.Meaning.{randomData, executed};
+use aes::Block;
+use aes::word::block_at;
+use aes::word::from_bytes;
+use aes::word::key_from_bytes;
 use aes::word::put_block;
 use aes::word::to_bytes;
-use aes::xor::xor_in;
+use aes::xor::xor_block;
 use cpu::put_zf;
 use cpu::register;
 use cpu::register_of;
@@ -37,6 +46,15 @@ fn no_backup(cpu: &[u8]) -> u8
     (register(cpu, 0) % 0x1_0000_0000 % 2) as u8
 }
 
+fn key_bytes(low: Block, high: Block) -> [u8; 32]
+    ensures { λ r. ⌜ r ≡ bytesOf low ++ bytesOf high ⌝ }
+{
+    let mut bytes = [0u8; 32];
+    put_block(&mut bytes, 0, low);
+    put_block(&mut bytes, 16, high);
+    bytes
+}
+
 // The encryption key's low half is SRC2 and its high half SRC1; the integrity key is XMM0.
 fn plain_key(l: LoadIwKey, cpu: &[u8]) -> IwKey
     requires { ⌜ length (now cpu) ≡ cpuSize ⌝ }
@@ -45,9 +63,7 @@ fn plain_key(l: LoadIwKey, cpu: &[u8]) -> IwKey
     let src2 = l.src2;
     let low = xmm(cpu, register_of(src2));
     let high = xmm(cpu, l.src1);
-    let mut encryption = [0u8; 32];
-    put_block(&mut encryption, 0, low);
-    put_block(&mut encryption, 16, high);
+    let encryption = key_bytes(low, high);
     IwKey {
         integrity: to_bytes(xmm(cpu, 0)),
         encryption,
@@ -56,16 +72,26 @@ fn plain_key(l: LoadIwKey, cpu: &[u8]) -> IwKey
     }
 }
 
+// A block with random bytes. By words: single bytes the compiler would keep apart, and a mask in read-only data to put them together.
+fn with_random(b: Block, random: [u8; 48], at: usize) -> Block
+    requires { ⌜ at ≤ 32 ⌝ }
+    ensures { λ r. ⌜ bytesOf r ≡ xorBytes (bytesOf b) (part 16 at random) ⌝ }
+{
+    xor_block(b, block_at(&random, at))
+}
+
 // Random bytes 0 to 31 go into the encryption key, 32 to 47 into the integrity key.
 fn mixed(k: IwKey, random: [u8; 48]) -> IwKey
     ensures { λ r. ⌜ r ≡ instructions.mixedWith random k ⌝ }
 {
-    let mut encryption = k.encryption;
-    let mut integrity = k.integrity;
-    xor_in(&mut encryption, &random[0..32]);
-    xor_in(&mut integrity, &random[32..48]);
+    let integrity = k.integrity;
+    let plain = k.encryption;
+    let key = key_from_bytes(plain);
+    let low = with_random(key.low, random, 0);
+    let high = with_random(key.high, random, 16);
+    let encryption = key_bytes(low, high);
     IwKey {
-        integrity,
+        integrity: to_bytes(with_random(from_bytes(integrity), random, 32)),
         encryption,
         source: k.source,
         no_backup: k.no_backup,

@@ -7,7 +7,6 @@ use Rattle.aes.specs.Meaning.{bytesOf}
 use Rattle.keywrap.specs.Meaning.{opened}
 use Rattle.model.specs.Instructions.{aes}
 use Rattle.aeskl.specs.Meaning.{Used, usedBy}
-use Rattle.aes_blocks.proofs.Columns.{boxed}
 use Rattle.aeskl.proofs.Openings.{illegal-used, none-used, key-used}
 use borrow.Author.Needs.{needs}
 use Rattle.aeskl.proofs.used_block.Statement.{statement}
@@ -22,16 +21,11 @@ returns-2 c =
     let left : Option (List ℕ) → Used = λ o. usedBy (aes (a .direction) (a .size)) o (bytesOf (a .block)) in
     illegal-used (a .k) (a .cpl) (a .size) (a .direction) (a .h) left (sym (c .before .illegal .ensures) ∙ c .if1 .taken)
 
-sbox-table-requires : tie.Need-sbox-table-requires
-sbox-table-requires c κs = search needs
-
-mix-table-requires : tie.Need-mix-table-requires
-mix-table-requires c κs = search needs
+cipher-tables-requires : tie.Need-cipher-tables-requires
+cipher-tables-requires c κs = search needs
 
 unwrapped-by-requires : tie.Need-unwrapped-by-requires
-unwrapped-by-requires c κs =
-    let rule = c .before .before .before .before .before .sbox-table .ensures in
-    (λ i h. boxed (rule i h) (c .before .before .mix-table .ensures i h), rule)
+unwrapped-by-requires c κs = search needs
 
 enum-known-key : tie.Need-enum-known-key
 enum-known-key c = search needs
@@ -41,23 +35,21 @@ enum-told c = search needs
 
 returns : tie.Need-returns
 returns c =
-    let a = c .before .before .before .before .before .before .before .before .before .before .before .args in
+    let a = c .before .before .before .before .before .before .before .before .before .before .args in
     let left : Option (List ℕ) → Used = λ o. usedBy (aes (a .direction) (a .size)) o (bytesOf (a .block)) in
-    none-used (a .k) (a .cpl) (a .size) (a .direction) (a .h) left (sym (c .before .before .before .before .before .before .before .before .before .before .illegal .ensures) ∙ c .before .before .before .before .before .before .before .before .before .if1 .left)
+    none-used (a .k) (a .cpl) (a .size) (a .direction) (a .h) left (sym (c .before .before .before .before .before .before .before .before .before .illegal .ensures) ∙ c .before .before .before .before .before .before .before .before .if1 .left)
     (sym (ap opened (c .enum-told .given .1)) ∙ c .before .before .unwrapped-by .ensures)
 
 cipher-block-requires : tie.Need-cipher-block-requires
-cipher-block-requires c κs =
-    let rule = c .before .before .before .before .before .before .before .before .before .before .before .sbox-table .ensures in
-    (λ i h. boxed (rule i h) (c .before .before .before .before .before .before .before .before .mix-table .ensures i h), rule)
+cipher-block-requires c κs = search needs
 
 returns-3 : tie.Need-returns-3
 returns-3 c =
-    let a = c .before .before .before .before .before .before .before .before .before .before .before .before .before .before .before .args in
+    let a = c .before .before .before .before .before .before .before .before .before .before .before .before .before .before .args in
     let left : Option (List ℕ) → Used = λ o. usedBy (aes (a .direction) (a .size)) o (bytesOf (a .block)) in
     let key = c .before .before .before .before .key .given in
     (λ j. record { zf = false; blocks = c .cipher-block .ensures j })
-    ∙ key-used (a .k) (a .cpl) (a .size) (a .direction) (a .h) left (key .0 .0) (sym (c .before .before .before .before .before .before .before .before .before .before .before .before .before .before .illegal .ensures) ∙ c .before .before .before .before .before .before .before .before .before .before .before .before .before .if1 .left)
+    ∙ key-used (a .k) (a .cpl) (a .size) (a .direction) (a .h) left (key .0 .0) (sym (c .before .before .before .before .before .before .before .before .before .before .before .before .before .illegal .ensures) ∙ c .before .before .before .before .before .before .before .before .before .before .before .before .if1 .left)
     (sym (ap opened (key .1)) ∙ c .before .before .before .before .before .before .unwrapped-by .ensures)
 
 pub used-block-spec : {M : Type 1} → statement M
@@ -65,8 +57,7 @@ used-block-spec =
     tie.close
     (tie.spec
     illegal-requires
-    sbox-table-requires
-    mix-table-requires
+    cipher-tables-requires
     unwrapped-by-requires
     enum-known-key
     enum-told

@@ -9,7 +9,6 @@ use Rattle.aes.specs.Meaning.{keyBytes}
 use Rattle.keywrap.specs.Meaning.{opened}
 use Rattle.model.specs.Instructions.{aes}
 use Rattle.aeskl.specs.Meaning.{Used, usedBy}
-use Rattle.aes_blocks.proofs.Columns.{boxed}
 use Rattle.aeskl.proofs.Openings.{illegal-used, none-used, key-used}
 use borrow.Author.Needs.{needs}
 use Rattle.aeskl.proofs.used_blocks.Statement.{statement}
@@ -24,16 +23,11 @@ returns c =
     let left : Option (List ℕ) → Used = λ o. usedBy (λ key. mapBlocks (aes (a .direction) (a .size) key) 8) o (a .blocks) in
     illegal-used (a .k) (a .cpl) (a .size) (a .direction) (a .h) left (sym (c .before .illegal .ensures) ∙ c .if1 .taken)
 
-sbox-table-requires : tie.Need-sbox-table-requires
-sbox-table-requires c κs = search needs
-
-mix-table-requires : tie.Need-mix-table-requires
-mix-table-requires c κs = search needs
+cipher-tables-requires : tie.Need-cipher-tables-requires
+cipher-tables-requires c κs = search needs
 
 unwrapped-by-requires : tie.Need-unwrapped-by-requires
-unwrapped-by-requires c κs =
-    let rule = c .before .before .before .before .before .sbox-table .ensures in
-    (λ i h. boxed (rule i h) (c .before .before .mix-table .ensures i h), rule)
+unwrapped-by-requires c κs = search needs
 
 enum-known-key : tie.Need-enum-known-key
 enum-known-key c = search needs
@@ -43,34 +37,32 @@ enum-told c = search needs
 
 returns-2 : tie.Need-returns-2
 returns-2 c =
-    let a = c .before .before .before .before .before .before .before .before .before .before .before .args in
+    let a = c .before .before .before .before .before .before .before .before .before .before .args in
     let left : Option (List ℕ) → Used = λ o. usedBy (λ key. mapBlocks (aes (a .direction) (a .size) key) 8) o (a .blocks) in
-    none-used (a .k) (a .cpl) (a .size) (a .direction) (a .h) left (sym (c .before .before .before .before .before .before .before .before .before .before .illegal .ensures) ∙ c .before .before .before .before .before .before .before .before .before .if1 .left)
+    none-used (a .k) (a .cpl) (a .size) (a .direction) (a .h) left (sym (c .before .before .before .before .before .before .before .before .before .illegal .ensures) ∙ c .before .before .before .before .before .before .before .before .if1 .left)
     (sym (ap opened (c .enum-told .given .1)) ∙ c .before .before .unwrapped-by .ensures)
 
 sized : (c : tie.Start) → length (c .args .blocks) ≡ 128
 sized c = search needs
 
 slice-aggregate-cipher-blocks : tie.Need-slice-aggregate-cipher-blocks
-slice-aggregate-cipher-blocks c = sym (sized (c .before .before .before .before .before .before .before .before .before .before .before .before .before .before .before))
+slice-aggregate-cipher-blocks c = sym (sized (c .before .before .before .before .before .before .before .before .before .before .before .before .before .before))
 
 cipher-blocks-requires : tie.Need-cipher-blocks-requires
-cipher-blocks-requires c κs =
-    let rule = c .before .before .before .before .before .before .before .before .before .before .before .before .sbox-table .ensures in
-    (λ i h. boxed (rule i h) (c .before .before .before .before .before .before .before .before .before .mix-table .ensures i h), rule)
+cipher-blocks-requires c κs = search needs
 
 returns-3 : tie.Need-returns-3
 returns-3 c =
-    let a = c .before .before .before .before .before .before .before .before .before .before .before .before .before .before .before .before .before .args in
+    let a = c .before .before .before .before .before .before .before .before .before .before .before .before .before .before .before .before .args in
     let left : Option (List ℕ) → Used = λ o. usedBy (λ key. mapBlocks (aes (a .direction) (a .size) key) 8) o (a .blocks) in
     let key = c .before .before .before .before .before .before .key .given in
-    let size = sized (c .before .before .before .before .before .before .before .before .before .before .before .before .before .before .before .before .before) in
+    let size = sized (c .before .before .before .before .before .before .before .before .before .before .before .before .before .before .before .before) in
     (λ j.
     record {
       zf = false;
       blocks = (c .before .cipher-blocks .ensures ∙ ap (λ (n : ℕ). mapBlocks (aes (a .direction) (a .size) (keyBytes (a .size) (key .0 .0))) (n / 16) (a .blocks)) size) j;
     })
-    ∙ key-used (a .k) (a .cpl) (a .size) (a .direction) (a .h) left (key .0 .0) (sym (c .before .before .before .before .before .before .before .before .before .before .before .before .before .before .before .before .illegal .ensures) ∙ c .before .before .before .before .before .before .before .before .before .before .before .before .before .before .before .if1 .left)
+    ∙ key-used (a .k) (a .cpl) (a .size) (a .direction) (a .h) left (key .0 .0) (sym (c .before .before .before .before .before .before .before .before .before .before .before .before .before .before .before .illegal .ensures) ∙ c .before .before .before .before .before .before .before .before .before .before .before .before .before .before .if1 .left)
     (sym (ap opened (key .1)) ∙ c .before .before .before .before .before .before .before .before .unwrapped-by .ensures)
 
 pub used-blocks-spec : {M : Type 1} → statement M
@@ -79,8 +71,7 @@ used-blocks-spec =
     (tie.spec
     illegal-requires
     returns
-    sbox-table-requires
-    mix-table-requires
+    cipher-tables-requires
     unwrapped-by-requires
     enum-known-key
     enum-told

@@ -9,7 +9,6 @@ use Rattle.keywrap.specs.Meaning.{opened}
 use Rattle.sp800_38a.specs.Counter.{ctr}
 use Rattle.model.specs.Instructions.{aes}
 use Rattle.aeskl.specs.Meaning.{Used, usedBy}
-use Rattle.aes_blocks.proofs.Columns.{boxed}
 use Rattle.ctr.proofs.Keyed.{masked-by}
 use Rattle.aeskl.proofs.Openings.{illegal-used, none-used, key-used}
 use borrow.Author.Needs.{needs}
@@ -30,16 +29,11 @@ returns c =
     let a = st .args in
     illegal-used (a .k) (a .cpl) (a .size) Encrypt (a .h) (after st) (sym (c .before .illegal .ensures) ∙ c .if1 .taken)
 
-sbox-table-requires : tie.Need-sbox-table-requires
-sbox-table-requires c κs = search needs
-
-mix-table-requires : tie.Need-mix-table-requires
-mix-table-requires c κs = search needs
+cipher-tables-requires : tie.Need-cipher-tables-requires
+cipher-tables-requires c κs = search needs
 
 unwrapped-by-requires : tie.Need-unwrapped-by-requires
-unwrapped-by-requires c κs =
-    let rule = c .before .before .before .before .before .sbox-table .ensures in
-    (λ i h. boxed (rule i h) (c .before .before .mix-table .ensures i h), rule)
+unwrapped-by-requires c κs = search needs
 
 enum-known-key : tie.Need-enum-known-key
 enum-known-key c = search needs
@@ -51,7 +45,7 @@ returns-2 : tie.Need-returns-2
 unfolding after
 returns-2 c =
     let unwrapped = c .before .before in
-    let else1 = unwrapped .before .before .before .before .before .before .before in
+    let else1 = unwrapped .before .before .before .before .before .before in
     let st = else1 .before .before .before in
     let a = st .args in
     none-used (a .k) (a .cpl) (a .size) Encrypt (a .h) (after st) (sym (else1 .before .illegal .ensures) ∙ else1 .if1 .left)
@@ -74,17 +68,16 @@ returns-3 c =
     let known = expanded .before .before .before in
     let unwrapped = known .before .before in
     let made = unwrapped .before .before .before in
-    let box = made .before .before .before in
-    let else1 = box .before in
+    let else1 = made .before .before .before in
     let st = else1 .before .before .before in
     let a = st .args in
     let key = known .key .given in
-    let rule = box .sbox-table .ensures in
+    let rules = made .cipher-tables .ensures in
     (λ j.
     record {
       zf = false;
       blocks = (masked .mask .ensures
-          ∙ masked-by _ _ (λ i h. boxed (rule i h) (made .mix-table .ensures i h)) rule (a .size) (key .0 .0) (expanded .expand-with .result) (expanded .expand-with .ensures)
+          ∙ masked-by _ _ (rules .0) (rules .1) (a .size) (key .0 .0) (expanded .expand-with .result) (expanded .expand-with .ensures)
           (bytesOf (a .c)) (a .buffer .now)) j;
     })
     ∙ key-used (a .k) (a .cpl) (a .size) Encrypt (a .h) (after st) (key .0 .0) (sym (else1 .before .illegal .ensures) ∙ else1 .if1 .left)
@@ -96,8 +89,7 @@ used-buffer-spec =
     (tie.spec
     illegal-requires
     returns
-    sbox-table-requires
-    mix-table-requires
+    cipher-tables-requires
     unwrapped-by-requires
     enum-known-key
     enum-told

@@ -1,65 +1,71 @@
-use mathlib.Core.Path.{_≡_}
+use mathlib.Core.Path.{_≡_, _∙_, sym, ap, ap₂}
+use mathlib.Core.List.{List, _++_}
+use Prim.Native.Nat.{ℕ}
 use native.Mathlib.Omega.{arith}
-use lib.ListN.{length, length-take, length-drop}
+use lib.ListN.{length, take, length-take}
+use Rattle.bits.specs.Bytes.{xorBytes}
+use Rattle.bits.proofs.Lists.{part-add}
+use Rattle.bits.proofs.Xor.{xor-append}
+use Rattle.aes.specs.Meaning.{bytesOf}
+use Rattle.model.specs.Numbers.{part}
 use borrow.Author.Needs.{needs}
 use Rattle.loadiwkey.proofs.mixed.Statement.{statement}
 use Rattle.loadiwkey.proofs.mixed.Tie as tie
 
-slice-aggregate-xor-in : tie.Need-slice-aggregate-xor-in
-slice-aggregate-xor-in c = search needs
+key-from-bytes-requires : tie.Need-key-from-bytes-requires
+key-from-bytes-requires c κs = search needs
 
-sub-xor-in : tie.Need-sub-xor-in
-sub-xor-in c = search needs
+with-random-requires : tie.Need-with-random-requires
+with-random-requires c κs = search needs
 
-part-xor-in-start : tie.Need-part-xor-in-start
-part-xor-in-start c = search needs
+with-random-requires-2 : tie.Need-with-random-requires-2
+with-random-requires-2 c κs = search needs
 
-part-xor-in-end : tie.Need-part-xor-in-end
-part-xor-in-end c = search needs
+key-bytes-requires : tie.Need-key-bytes-requires
+key-bytes-requires c κs = search needs
 
-xor-in-requires : tie.Need-xor-in-requires
-xor-in-requires c κs =
-    let st = c .before .before .before .before .before in
-    let random : length (st .args .t2) ≡ 48 = search needs in
-    let key : length (st .args .k .encryption) ≡ 32 = search needs in
-    simp (length-take, length-drop) (omega arith)
+from-bytes-requires : tie.Need-from-bytes-requires
+from-bytes-requires c κs = search needs
 
-slice-aggregate-xor-in-2 : tie.Need-slice-aggregate-xor-in-2
-slice-aggregate-xor-in-2 c = search needs
+with-random-requires-3 : tie.Need-with-random-requires-3
+with-random-requires-3 c κs = search needs
 
-sub-xor-in-2 : tie.Need-sub-xor-in-2
-sub-xor-in-2 c = search needs
+to-bytes-requires : tie.Need-to-bytes-requires
+to-bytes-requires c κs = search needs
 
-part-xor-in-start-2 : tie.Need-part-xor-in-start-2
-part-xor-in-start-2 c = search needs
-
-part-xor-in-end-2 : tie.Need-part-xor-in-end-2
-part-xor-in-end-2 c = search needs
-
-xor-in-requires-2 : tie.Need-xor-in-requires-2
-xor-in-requires-2 c κs =
-    let st = c .before .before .before .before .before .before .before .before .before .before in
-    let random : length (st .args .t2) ≡ 48 = search needs in
-    let key : length (st .args .k .integrity) ≡ 16 = search needs in
-    simp (length-take, length-drop) (omega arith)
+sized : (c : tie.Start) → length (c .args .random) ≡ 48
+sized c = search needs
 
 returns : tie.Need-returns
 returns c =
-    let k = c .before .before .before .before .before .before .before .before .before .before .before .before .args .k in
-    λ j. record { integrity = c .before .xor-in2 .ensures j; encryption = c .before .before .before .before .before .before .xor-in .ensures j; source = k .source; «no_backup» = k .«no_backup» }
+    let joined = c .before .before .before in
+    let high = joined .before in
+    let low = high .before in
+    let read = low .before in
+    let st = read .before .before .before in
+    let k = st .args .k in
+    let random = st .args .random in
+    let key = read .key-from-bytes .result in
+    let size = sized st in
+    let front : 16 ≡ length (take 16 random) = simp (length-take) (omega (arith, size)) in
+    let encryption =
+    joined .key-bytes .ensures ∙ ap₂ (λ (x y : List ℕ). x ++ y) (low .with-random .ensures) (high .with-random2 .ensures)
+    ∙ sym (xor-append (bytesOf (key .low)) (bytesOf (key .high)) (part 16 0 random) (part 16 16 random) front)
+    ∙ ap₂ xorBytes (read .key-from-bytes .ensures) (sym (part-add random 0 16 16)) in
+    let integrity =
+    c .to-bytes .ensures ∙ c .before .with-random3 .ensures
+    ∙ ap (λ (l : List ℕ). xorBytes l (part 16 32 random)) (c .before .before .from-bytes .ensures) in
+    λ j. record { integrity = integrity j; encryption = encryption j; source = k .source; «no_backup» = k .«no_backup» }
 
 pub mixed-spec : {M : Type 1} → statement M
 mixed-spec =
     tie.close
     (tie.spec
-    slice-aggregate-xor-in
-    sub-xor-in
-    part-xor-in-start
-    part-xor-in-end
-    xor-in-requires
-    slice-aggregate-xor-in-2
-    sub-xor-in-2
-    part-xor-in-start-2
-    part-xor-in-end-2
-    xor-in-requires-2
+    key-from-bytes-requires
+    with-random-requires
+    with-random-requires-2
+    key-bytes-requires
+    from-bytes-requires
+    with-random-requires-3
+    to-bytes-requires
     returns)

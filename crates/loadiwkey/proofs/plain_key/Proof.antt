@@ -1,8 +1,6 @@
 use mathlib.Core.Path.{_∙_, ap, ap₂}
 use mathlib.Core.List.{List, _++_}
 use Prim.Native.Nat.{ℕ}
-use lib.Seq.{sets}
-use Rattle.aes.specs.Meaning.{bytesOf}
 use Rattle.model.specs.Cpu.{xmm}
 use borrow.Author.Needs.{needs}
 use Rattle.loadiwkey.proofs.plain_key.Statement.{statement}
@@ -17,17 +15,8 @@ xmm-requires c κs = search needs
 xmm-requires-2 : tie.Need-xmm-requires-2
 xmm-requires-2 c κs = search needs
 
-slice-aggregate-put-block : tie.Need-slice-aggregate-put-block
-slice-aggregate-put-block c = search needs
-
-put-block-requires : tie.Need-put-block-requires
-put-block-requires c κs = search needs
-
-slice-aggregate-put-block-2 : tie.Need-slice-aggregate-put-block-2
-slice-aggregate-put-block-2 c = search needs
-
-put-block-requires-2 : tie.Need-put-block-requires-2
-put-block-requires-2 c κs = search needs
+key-bytes-requires : tie.Need-key-bytes-requires
+key-bytes-requires c κs = search needs
 
 xmm-requires-3 : tie.Need-xmm-requires-3
 xmm-requires-3 c κs = search needs
@@ -43,15 +32,12 @@ no-backup-requires c κs = search needs
 
 returns : tie.Need-returns
 returns c =
-    let cpu = c .before .before .before .before .before .before .before .before .before .before .before .before .before .before .args .cpu .now in
-    let low = c .before .before .before .before .before .before .before .before .before .before .before .xmm .result in
-    let high = c .before .before .before .before .before .before .before .before .before .before .xmm2 .result in
-    let src2 = c .before .before .before .before .before .before .before .before .before .before .before .xmm .ensures ∙ ap (λ (n : ℕ). xmm n cpu) (c .before .before .before .before .before .before .before .before .before .before .before .before .register-of .ensures) in
-    let src1 = c .before .before .before .before .before .before .before .before .before .before .xmm2 .ensures in
-    let encryption =
-    c .before .before .before .before .before .put-block2 .ensures
-    ∙ ap (λ (l : List ℕ). sets l 16 (bytesOf high)) (c .before .before .before .before .before .before .before .before .put-block .ensures)
-    ∙ ap₂ (λ (x y : List ℕ). x ++ y) src2 src1 in
+    let joined = c .before .before .before .before in
+    let high = joined .before in
+    let low = high .before in
+    let cpu = low .before .before .before .args .cpu .now in
+    let src2 = low .xmm .ensures ∙ ap (λ (n : ℕ). xmm n cpu) (low .before .register-of .ensures) in
+    let encryption = joined .key-bytes .ensures ∙ ap₂ (λ (x y : List ℕ). x ++ y) src2 (high .xmm2 .ensures) in
     let integrity = c .before .before .to-bytes .ensures ∙ c .before .before .before .xmm3 .ensures in
     λ j.
     record {
@@ -68,10 +54,7 @@ plain-key-spec =
     register-of-requires
     xmm-requires
     xmm-requires-2
-    slice-aggregate-put-block
-    put-block-requires
-    slice-aggregate-put-block-2
-    put-block-requires-2
+    key-bytes-requires
     xmm-requires-3
     to-bytes-requires
     key-source-requires
