@@ -35,8 +35,8 @@
 
 #define KEYLOCKER_VERSION "1.6.0"
 
-/* bytes of stack that a call needs at most; the keyring's two need about 1 KiB of it */
-#define KEYLOCKER_STACK_SIZE 7168
+/* bytes of stack that a call needs at most: keylocker_ctr, whatever the buffer. No other call needs more than 6,720, and the keyring's two need about 1 KiB */
+#define KEYLOCKER_STACK_SIZE 9472
 
 #ifdef __cplusplus
 extern "C" {

@@ -15,7 +15,7 @@ use Rattle.model.specs.Counter.{Counted, sizeOf, countedBy, counted}
 use Rattle.model.specs.Cpu.{cpl}
 use Rattle.model.specs.Instructions.{openedFor}
 use Rattle.model.specs.declared.IwKey.{IwKey}
-use Rattle.model.specs.Records.{processorAt, noProcessor}
+use Rattle.model.specs.Records.{noProcessor}
 use Rattle.model.specs.Validity.{valid}
 use Rattle.model.specs.Refusals.{refusal}
 use Rattle.model.specs.Execution.{viewOf, refused, perform, call}

@@ -10,7 +10,7 @@ use lib.Seq.{sets, sets-eq, take-at, drop-at, drop-drop}
 use Rattle.bits.specs.Blocks.{mapBlocks}
 use Rattle.bits.specs.Bytes.{xorBytes}
 use Rattle.bits.proofs.Lists.{cons, no-elements}
-use Rattle.sp800_38a.specs.Counter.{counterAt, counters, outputBlocks, ctr}
+use Rattle.sp800_38a.specs.Counter.{counterAt, outputBlocks, ctr}
 use Rattle.sp800_38a.proofs.Counters.{counter-length}
 use Rattle.sp800_38a.proofs.Ctr.{output-length, output-append}
 

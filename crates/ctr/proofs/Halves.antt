@@ -1,12 +1,11 @@
 -- Counter blocks in two halves of 64 bits, highest byte first.
 -- Assumes nothing.
-use mathlib.Core.Path.{_≡_, refl, sym, ap, ap₂, _∙_}
+use mathlib.Core.Path.{_≡_, sym, ap, ap₂, _∙_}
 use mathlib.Core.List.{List, _++_, reverse, reverse-append, reverse-reverse}
 use Prim.Native.Nat.{ℕ, _+_, _*_, _/_, _%_, _^_, _<_}
 use native.Mathlib.Omega.{arith}
-use lib.ListN.{length}
 use Rattle.bits.specs.Words.{leBytes, leValue}
-use Rattle.bits.proofs.Words.{le-length, le-append, value-append, value-of-le}
+use Rattle.bits.proofs.Words.{le-append, value-append, value-of-le}
 use Rattle.aes.proofs.Words.{halves, joined}
 use Rattle.sp800_38a.specs.Counter.{beBytes, counterAt}
 use Rattle.sp800_38a.proofs.Counters.{le-mod}

@@ -1,20 +1,19 @@
 -- Data masked from the front, some blocks at a time: over any cipher whose results have 16 bytes.
 -- Assumes nothing.
 use mathlib.Core.Path.{_≡_, refl, sym, ap, ap₂, subst, _∙_}
-use mathlib.Core.List.{List, [], _∷_, _++_, append-assoc, append-nil, flatMap}
-use Prim.Native.Nat.{ℕ, _+_, _-_, _*_, _≤_, _<_}
+use mathlib.Core.List.{List, [], _++_, append-assoc, append-nil}
+use Prim.Native.Nat.{ℕ, _+_, _-_, _*_, _≤_}
 use native.Mathlib.Omega.{arith}
 use lib.ListN.{length, take, drop, length-append, length-drop, take-append-drop}
-use lib.Seq.{sets, sets-eq, length-sets, length-take-le, take-all, take-take, take-add, take-at, drop-at, drop-drop}
-use Rattle.bits.specs.Blocks.{mapBlocks}
+use lib.Seq.{sets, sets-eq, length-sets, length-take-le, take-all, take-add, take-at, drop-at, drop-drop}
 use Rattle.bits.specs.Bytes.{Bytes, xorBytes}
-use Rattle.bits.proofs.Lists.{cons, no-elements}
+use Rattle.bits.proofs.Lists.{no-elements}
 use Rattle.aes.specs.Meaning.{bytesOf}
 use Rattle.aes.specs.declared.Block.{Block}
 use Rattle.aes.proofs.Tables.{block-bytes}
-use Rattle.sp800_38a.specs.Counter.{counterAt, counters, outputBlocks, ctr}
-use Rattle.sp800_38a.proofs.Counters.{counter-sum, counter-none, counter-length}
-use Rattle.sp800_38a.proofs.Ctr.{output-length, ctr-length, ctr-append, ctr-block}
+use Rattle.sp800_38a.specs.Counter.{counterAt, ctr}
+use Rattle.sp800_38a.proofs.Counters.{counter-sum, counter-none}
+use Rattle.sp800_38a.proofs.Ctr.{ctr-length, ctr-append, ctr-block}
 
 -- ---- counter blocks one behind the other
 

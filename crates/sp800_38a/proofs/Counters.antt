@@ -1,8 +1,8 @@
 -- Counter blocks: their length and bytes, counting on from one, and the end of the numbers.
 -- Assumes nothing.
-use mathlib.Core.Path.{_≡_, refl, sym, ap, ap₂, _∙_}
-use mathlib.Core.List.{List, [], _∷_, _++_, reverse, reverseAux, reverse-reverse}
-use Prim.Native.Nat.{ℕ, zero, suc, _+_, _^_, _%_}
+use mathlib.Core.Path.{_≡_, sym, ap, ap₂, _∙_}
+use mathlib.Core.List.{List, [], _∷_, reverse, reverseAux, reverse-reverse}
+use Prim.Native.Nat.{ℕ, _+_, _^_, _%_}
 use native.Mathlib.Nat.{mod-add-mod, add-mod-right, add-assoc}
 use native.Mathlib.Omega.{arith}
 use lib.ListN.{length, length-reverse}

@@ -3,14 +3,14 @@
 use mathlib.Core.Path.{_≡_, refl, sym, ap, ap₂, _∙_}
 use mathlib.Core.List.{List, [], _∷_, _++_, append-assoc, append-nil, flatMap}
 use mathlib.Core.Logic.{⊎-elim}
-use Prim.Native.Nat.{ℕ, zero, suc, _+_, _*_, _-_, _/_, _%_, _≤_, _<_}
+use Prim.Native.Nat.{ℕ, zero, suc, _+_, _*_, _-_, _/_, _≤_}
 use native.Mathlib.Nat.{zero-add, suc-add, add-assoc, eq-zero-or-pos}
 use native.Mathlib.Omega.{arith}
-use lib.ListN.{length, take, drop, length-append, length-drop, take-append-drop}
-use lib.Seq.{take-all, length-take-le, take-append-le, drop-append-le, take-at, drop-at}
+use lib.ListN.{length, take, drop, length-append, take-append-drop}
+use lib.Seq.{take-all, length-take-le, take-at, drop-at}
 use Rattle.bits.specs.Bytes.{Bytes, xorBytes}
 use Rattle.bits.proofs.Xor.{xor-bytes-undo, xor-length, xor-append}
-use Rattle.sp800_38a.specs.Counter.{counterAt, counters, outputBlocks, ctr}
+use Rattle.sp800_38a.specs.Counter.{counterAt, outputBlocks, ctr}
 use Rattle.sp800_38a.proofs.Counters.{counter-bytes, counter-sum, counter-none}
 
 module _ (f : List ℕ → List ℕ) where

@@ -2,7 +2,6 @@ use mathlib.Core.Path.{sym}
 use borrow.Author.Tests.{eq-eqb, ne-eqb}
 use Rattle.bits.proofs.Choice.{cond-on, cond-off}
 use Rattle.fips197.specs.declared.KeySize.the-variants.{Aes128, Aes256}
-use borrow.Author.Needs.{needs}
 use Rattle.counter.proofs.size_of.Statement.{statement}
 use Rattle.counter.proofs.size_of.Tie as tie
 
