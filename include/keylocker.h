@@ -18,12 +18,17 @@
  * assumed, and byte buffers need no alignment. What the caller owes is valid C, and stack:
  *   - behind each pointer at least as many bytes as the length says, and a number behind value, eax, ebx, ecx and edx; a null pointer only with length 0;
  *     where a lookup is to put what it finds, a byte behind kind and KEYLOCKER_HANDLE_256_SIZE bytes behind handle;
- *   - no two buffers of a call overlap, places for results included (a string that lies in guest memory is copied first, and so is a handle or a counter
- *     block that lies in the buffer of keylocker_ctr);
+ *   - a buffer that a call may write, and a place for a result, overlaps no other of the call: a handle or a counter block that lies in the buffer of
+ *     keylocker_ctr is copied first. Buffers that are only read, const in the prototypes, may overlap each other: a string may lie in guest memory;
  *   - no other thread uses a buffer while a call may write it;
  *   - below the caller's own frame KEYLOCKER_STACK_SIZE bytes of stack: no call goes deeper. Signal handlers on the same stack need theirs besides, and
  *     so does a dynamic linker that binds memcpy, memmove and memset at their first call, some 3 KiB; linked with -z now it binds them before.
  * The library keeps nothing between calls and allocates nothing, so different machines and keyrings may be used by different threads at the same time.
+ *
+ * Keys stay behind on the stack. A call that reads a machine, refused or not, leaves copies of the IWKeys that were in it in the bytes below the caller's
+ * frame, until something else is written there: only power-on, a call refused by the block's length and the keyring's calls leave none. ENCODEKEY also
+ * leaves the key that it encodes, a use or counter call the key that it opens and its round keys, and all three round keys of the IWKey. No call clears
+ * them; keylocker_clear_stack, at the end of this file, does.
  *
  * All integers in buffers are little-endian but a counter block, the counter of keylocker_ctr, which is big-endian.
  */
@@ -32,8 +37,12 @@
 
 #include <stddef.h>
 #include <stdint.h>
+#include <string.h>
 
-#define KEYLOCKER_VERSION "1.6.0"
+#define KEYLOCKER_VERSION "1.7.0"
+#define KEYLOCKER_VERSION_MAJOR 1 /* another one: programs have to be looked at again */
+#define KEYLOCKER_VERSION_MINOR 7 /* calls, functions or strings are new */
+#define KEYLOCKER_VERSION_PATCH 0
 
 /* bytes of stack that a call needs at most: keylocker_ctr, whatever the buffer. No other call needs more than 6,720, and the keyring's two need about 1 KiB */
 #define KEYLOCKER_STACK_SIZE 9472
@@ -47,7 +56,11 @@ extern "C" {
  * Processor count (1 to 16), features, 16 entries, backup, store, pending, valid, error, consumed. An entry is an IWKey (integrity key, encryption key,
  * key source, NoBackup) and a copy status; backup (IWKeyBackup) and store (what persistent storage holds of it) are a presence byte and an IWKey.
  * Flags and key sources are 0 or 1; entries from the count on and absent IWKeys are zero. The host may read and copy the block (a snapshot is a
- * copy), and may write it if it keeps to this form; a block of another form is refused by every call but power-on. */
+ * copy), and may write it if it keeps to this form; a block of another form is refused by every call but power-on.
+ *
+ * It is written only by a call that answers 0. keylocker_step then writes its processor's entry, which LOADIWKEY alone changes; keylocker_power_on,
+ * keylocker_write, keylocker_taken, keylocker_settle, keylocker_sleep and keylocker_reset write all of it, whatever of it changes. keylocker_ctr,
+ * keylocker_cpuid and keylocker_read never write it. So a host that keeps the block on disk has to store it behind each of the first seven. */
 #define KEYLOCKER_PROCESSORS 16
 
 /* an IWKey */
@@ -126,7 +139,28 @@ extern "C" {
 
 /* ---- handles, memory, random data and counter mode ----
  *
- * A handle is 16 bytes of AAD (restrictions and key type), a tag of 16 bytes, and the encrypted key. */
+ * A handle is 16 bytes of AAD (restrictions and key type), a tag of 16 bytes, and the encrypted key.
+ *
+ * Addresses of handles are places in the guest memory that a step is lent: it begins at address 0 and ends at KEYLOCKER_MEMORY_LIMIT at the latest, and
+ * what lies behind its end gives #PF. A host whose guest has more memory, or pages, finds the handle itself: by the operand and its own page tables,
+ * with #PF, #GP and #SS where it is not there, not to be read or not canonical. It copies the handle, lends the copy at address 0, and rewrites the
+ * operand to the absolute address 0 (ModRM with mod 0 and r/m 4, SIB 25, four zero bytes), which no register has a part in. The rewritten string is
+ * of another length than the guest's, so RIP is set by the guest's:
+ *
+ *     static uint32_t use_copy(uint8_t *machine, uint8_t processor, uint8_t *cpu, const uint8_t *handle, size_t handle_len, uint8_t opcode,
+ *                              uint8_t reg, size_t guest_string_len)
+ *     {
+ *         const uint8_t rex = reg < 8 ? 0x40 : 0x44, modrm = (uint8_t)((reg & 7) << 3 | 4);
+ *         const uint8_t string[] = {0xF3, rex, 0x0F, 0x38, opcode, modrm, 0x25, 0, 0, 0, 0};
+ *         const uint64_t rip = keylocker_get_rip(cpu);
+ *         uint32_t answer = keylocker_step(machine, KEYLOCKER_MACHINE_SIZE, processor, cpu, KEYLOCKER_CPU_SIZE, handle, handle_len, NULL, 0, string,
+ *                                          sizeof string);
+ *         if (answer == KEYLOCKER_DONE)
+ *             keylocker_set_rip(cpu, rip + guest_string_len);
+ *         return answer;
+ *     }
+ *
+ * opcode is DC to DF with reg the block's XMM register, or D8 with reg 0 to 3 for the wide form. */
 #define KEYLOCKER_HANDLE_128_SIZE 48
 #define KEYLOCKER_HANDLE_256_SIZE 64
 #define KEYLOCKER_MEMORY_LIMIT 1048576
@@ -292,7 +326,8 @@ uint32_t keylocker_cpuid(const uint8_t *machine, size_t machine_len, const uint8
 #define KEYLOCKER_BACKUP_ERROR 0x4
 #define KEYLOCKER_BACKUP_CONSUMED 0x8 /* the platform has taken the backup */
 
-/* cpl is the CPL that the register is read or written at; all but 0 are refused. *value is written only where the answer is 0. The machine is not written. */
+/* cpl is the CPL that the register is read or written at. Of 4 and above it is KEYLOCKER_BAD_CPU, as in a CPU record, before the register is looked at; of 1
+ * to 3 it is KEYLOCKER_GP, as a processor has it. *value is written only where the answer is 0. The machine is not written. */
 uint32_t keylocker_read(const uint8_t *machine, size_t machine_len, uint8_t processor, uint8_t cpl, uint32_t address, uint64_t *value);
 
 /* A copy that fails is no refusal: the answer is 0, and IA32_COPY_STATUS tells. */
@@ -327,6 +362,151 @@ uint32_t keylocker_keyring_lookup(const uint8_t *keyring, size_t keyring_len, co
  * kind of the first record with it are replaced. Otherwise the free record of lowest index takes both, all 80 bytes of it are written, and it becomes
  * the first of its chain. All other bytes stay. Answers 0, KEYLOCKER_BAD_KEYRING or KEYLOCKER_KEYRING_FULL. */
 uint32_t keylocker_keyring_add(uint8_t *keyring, size_t keyring_len, const uint8_t *label, size_t label_len, const uint8_t *handle, size_t handle_len);
+
+/* ---- for hosts in C ----
+ *
+ * These are compiled into the program that uses them; nothing of the above needs them, and no proof covers them. */
+
+/* What an answer says, whatever the call. */
+static inline const char *keylocker_answer_text(uint32_t number)
+{
+    switch (number) {
+    case KEYLOCKER_DONE:
+        return "done";
+    case KEYLOCKER_BAD_MACHINE:
+        return "not a machine block, or at power-on a count or features that are not possible";
+    case KEYLOCKER_BAD_CODE:
+        return "settle or wake code unknown";
+    case KEYLOCKER_BAD_PROCESSOR:
+        return "the machine has no such processor";
+    case KEYLOCKER_BAD_CPU_SIZE:
+        return "a CPU record of another length";
+    case KEYLOCKER_BAD_CPU:
+        return "CPL above 3, or a zero field of the CPU record is not zero";
+    case KEYLOCKER_BAD_SIZE:
+        return "a buffer that is too long, or a handle or counter block of another length";
+    case KEYLOCKER_BAD_MEMORY:
+        return "more guest memory than is taken";
+    case KEYLOCKER_BAD_RANDOM:
+        return "random data of another length";
+    case KEYLOCKER_BAD_BYTE:
+        return "the string has a byte that no instruction has there";
+    case KEYLOCKER_STRING_ENDS:
+        return "the string ends inside an instruction";
+    case KEYLOCKER_UD:
+        return "#UD: LOCK, or a feature or CR4.KL or CR4.OSFXSR is off, or CR0.EM is on";
+    case KEYLOCKER_NM:
+        return "#NM: CR0.TS is on";
+    case KEYLOCKER_GP:
+        return "#GP(0)";
+    case KEYLOCKER_SS:
+        return "#SS(0): the address of a handle byte in the stack segment is not canonical";
+    case KEYLOCKER_PF:
+        return "#PF: a handle byte lies outside memory";
+    case KEYLOCKER_BAD_KEYRING:
+        return "not a keyring, or a label or handle of another length";
+    case KEYLOCKER_NO_LABEL:
+        return "no record of the label's chain has it";
+    case KEYLOCKER_KEYRING_FULL:
+        return "the label is not there, and every record but 0 is on a chain";
+    default:
+        return "no answer of this library";
+    }
+}
+
+/* Registers of a CPU record of KEYLOCKER_CPU_SIZE bytes. Numbers of registers are taken modulo 16. CPL and control bits are a byte each, at
+ * KEYLOCKER_CPU_CPL and KEYLOCKER_CPU_CONTROL. */
+static inline uint64_t keylocker_get_64(const uint8_t *cpu, size_t at)
+{
+    uint64_t value = 0;
+    for (unsigned i = 0; i < 8; i++)
+        value |= (uint64_t)cpu[at + i] << 8 * i;
+    return value;
+}
+
+static inline void keylocker_set_64(uint8_t *cpu, size_t at, uint64_t value)
+{
+    for (unsigned i = 0; i < 8; i++)
+        cpu[at + i] = (uint8_t)(value >> 8 * i);
+}
+
+static inline uint64_t keylocker_get_register(const uint8_t *cpu, unsigned n)
+{
+    return keylocker_get_64(cpu, KEYLOCKER_CPU_REGISTERS + 8 * (n % 16));
+}
+
+static inline void keylocker_set_register(uint8_t *cpu, unsigned n, uint64_t value)
+{
+    keylocker_set_64(cpu, KEYLOCKER_CPU_REGISTERS + 8 * (n % 16), value);
+}
+
+static inline uint64_t keylocker_get_rip(const uint8_t *cpu)
+{
+    return keylocker_get_64(cpu, KEYLOCKER_CPU_RIP);
+}
+
+static inline void keylocker_set_rip(uint8_t *cpu, uint64_t value)
+{
+    keylocker_set_64(cpu, KEYLOCKER_CPU_RIP, value);
+}
+
+static inline uint64_t keylocker_get_rflags(const uint8_t *cpu)
+{
+    return keylocker_get_64(cpu, KEYLOCKER_CPU_RFLAGS);
+}
+
+static inline void keylocker_set_rflags(uint8_t *cpu, uint64_t value)
+{
+    keylocker_set_64(cpu, KEYLOCKER_CPU_RFLAGS, value);
+}
+
+/* 0 or 1 */
+static inline unsigned keylocker_get_zf(const uint8_t *cpu)
+{
+    return (keylocker_get_rflags(cpu) & KEYLOCKER_RFLAGS_ZF) != 0;
+}
+
+static inline void keylocker_get_xmm(const uint8_t *cpu, unsigned n, uint8_t block[16])
+{
+    memcpy(block, cpu + KEYLOCKER_CPU_XMM + 16 * (n % 16), 16);
+}
+
+static inline void keylocker_set_xmm(uint8_t *cpu, unsigned n, const uint8_t block[16])
+{
+    memcpy(cpu + KEYLOCKER_CPU_XMM + 16 * (n % 16), block, 16);
+}
+
+/* Clears what calls left on the stack: at least KEYLOCKER_STACK_SIZE bytes below the frame of the function that it is called in, which is what those calls
+ * had at most. It is to be called in the function that made the calls, or further out if the frames in between have at most KEYLOCKER_CLEAR_MARGIN bytes
+ * together. It needs as much stack as it clears, and some bytes more. Registers are not cleared, nor where a signal handler or a dynamic linker saved
+ * them.
+ *
+ * Its stores are volatile, which no compiler leaves out. Another function to do that, such as explicit_bzero, may be bound at its first call, by a dynamic
+ * linker that then saves registers with keys in them further down. */
+#define KEYLOCKER_CLEAR_MARGIN 1024
+
+/* never inlined: its bytes would be in the caller's frame, above those to be cleared */
+#if defined(__GNUC__)
+__attribute__((noinline, unused))
+#endif
+static void keylocker_clear_below(void)
+{
+    volatile uint64_t words[(KEYLOCKER_STACK_SIZE + KEYLOCKER_CLEAR_MARGIN) / 8];
+    for (size_t i = 0; i < sizeof words / sizeof *words; i++)
+        words[i] = 0;
+}
+
+/* always inlined, with something behind the call: as a tail call it would be made without the caller's frame, and begin too high */
+#if defined(__GNUC__)
+__attribute__((always_inline))
+#endif
+static inline void keylocker_clear_stack(void)
+{
+    keylocker_clear_below();
+#if defined(__GNUC__)
+    __asm__ volatile("");
+#endif
+}
 
 #ifdef __cplusplus
 }

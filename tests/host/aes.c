@@ -4,8 +4,6 @@
 
 #include "faults.h"
 
-enum { WORDS_MOST = 60 };
-
 static uint8_t s_box[256], inverse_s_box[256];
 
 /* section 4.2.1 */
@@ -64,8 +62,8 @@ static void rotate_word(uint8_t word[4])
     word[3] = first;
 }
 
-/* section 5.2; returns the number of rounds */
-static unsigned expand_key(const uint8_t *key, size_t key_length, uint8_t w[WORDS_MOST][4])
+/* section 5.2 */
+unsigned aes_expand_key(const uint8_t *key, size_t key_length, uint8_t w[AES_WORDS_MOST][4])
 {
     unsigned nk = (unsigned)key_length / 4, rounds = nk + 6;
     uint8_t rcon = 1;
@@ -91,7 +89,7 @@ struct schedule {
     uint8_t key[32];
     size_t key_length;
     unsigned rounds;
-    uint8_t w[WORDS_MOST][4];
+    uint8_t w[AES_WORDS_MOST][4];
 };
 
 /* The last key's is kept: counter mode asks for it block by block. */
@@ -102,7 +100,7 @@ static const struct schedule *schedule_of(const uint8_t *key, size_t key_length)
         return &last;
     memcpy(last.key, key, key_length);
     last.key_length = key_length;
-    last.rounds = expand_key(key, key_length, last.w);
+    last.rounds = aes_expand_key(key, key_length, last.w);
     return &last;
 }
 

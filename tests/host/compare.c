@@ -2,11 +2,11 @@
 
 #include <inttypes.h>
 #include <stdio.h>
-#include <stdlib.h>
 #include <string.h>
 
 #include "faults.h"
 #include "keylocker.h"
+#include "lend.h"
 #include "machine.h"
 #include "spoil.h"
 
@@ -14,42 +14,37 @@ const uint64_t VALUE_BEFORE = UINT64_C(0xA5C3960F1E2D4B78);
 
 const char *const call_names[CALL_KINDS] = {"power-on", "step", "read", "write", "settle", "sleep", "reset", "taken", "cpuid", "ctr"};
 
-/* A buffer of exactly its length, so that valgrind sees any access behind it. Of no bytes it is a null pointer or an empty allocation. */
-static struct buffer exact_copy(const struct trial *t, struct buffer from)
+static const char *const leaf_names[LEAF_REGISTERS] = {"EAX", "EBX", "ECX", "EDX"};
+
+/* Of no bytes it is a null pointer, or one that nothing may be touched behind. Without a name it is for the model. */
+static struct buffer lent_copy(const struct trial *t, const char *name, struct buffer from)
 {
-    struct buffer copy = {NULL, from.length};
     if (from.length == 0 && t->null_if_empty)
-        return copy;
-    copy.bytes = malloc(from.length);
-    if (!copy.bytes)
-        abort();
-    if (from.length)
-        memcpy(copy.bytes, from.bytes, from.length);
-    return copy;
+        return (struct buffer){NULL, 0};
+    return (struct buffer){lend(name, from.bytes, from.length), from.length};
 }
 
-/* each result is a place of its own, so that valgrind sees one that is written wider than it is */
-static void lend_results(const struct trial *t, struct results *results)
+/* each result is a place of its own, so that one that is written wider than it is shows; what the call does not take is not guarded */
+static void lend_results(const struct trial *t, bool library, struct results *results)
 {
-    results->value = malloc(sizeof *results->value);
-    if (!results->value)
-        abort();
+    results->value = lend_number(library && t->call.kind == READ ? "value" : NULL, sizeof *results->value);
     *results->value = VALUE_BEFORE;
     for (int i = 0; i < LEAF_REGISTERS; i++) {
-        results->leaf[i] = malloc(sizeof *results->leaf[i]);
-        if (!results->leaf[i])
-            abort();
+        results->leaf[i] = lend_number(library && t->call.kind == CPUID ? leaf_names[i] : NULL, sizeof *results->leaf[i]);
         *results->leaf[i] = t->leaf_before[i];
     }
 }
 
-static void copy_lent(const struct trial *t, struct run *run)
+/* what a call may write */
+static void copy_written(const struct trial *t, bool library, struct run *run)
 {
     run->call = t->call;
-    run->machine = exact_copy(t, t->machine);
-    run->call.cpu = exact_copy(t, t->call.cpu);
-    run->call.data = exact_copy(t, t->call.data);
-    lend_results(t, &run->results);
+    run->machine = lent_copy(t, library ? "machine" : NULL, t->machine);
+    run->call.cpu = lent_copy(t, library ? "CPU record" : NULL, t->call.cpu);
+    run->call.data = lent_copy(t, library ? "data" : NULL, t->call.data);
+    lend_results(t, library, &run->results);
+    run->number = UNANSWERED;
+    run->touched = NULL;
 }
 
 static uint32_t library_call(struct run *r)
@@ -82,16 +77,19 @@ static uint32_t library_call(struct run *r)
     }
 }
 
-/* for valgrind to see */
-static void read_behind(bool planted, struct buffer lent)
+void misuse_lent(struct buffer lent, bool behind, bool before, bool rewritten)
 {
-    volatile uint8_t behind = 0;
-    if (planted && lent.bytes)
-        behind = lent.bytes[lent.length];
-    (void)behind;
+    volatile uint8_t *bytes = lent.bytes, read = 0;
+    if (behind && lent.length)
+        read = bytes[lent.length];
+    if (before && lent.length)
+        read = bytes[-1];
+    if (rewritten && lent.length)
+        bytes[lent.length - 1] = lent.bytes[lent.length - 1];
+    (void)read;
 }
 
-/* What the comparison and valgrind have to see, done in the library's stead. */
+/* What the comparison has to see, done in the library's stead. */
 static void misuse(struct run *r)
 {
     struct call *c = &r->call;
@@ -113,12 +111,6 @@ static void misuse(struct run *r)
         r->machine.bytes[r->machine.length - 1] ^= 1;
     if (FAULT(TAKEN_REFUSED_WRITES) && c->kind == TAKEN && r->number && r->machine.length)
         r->machine.bytes[r->machine.length - 1] = 1;
-    read_behind(FAULT(BEHIND_MACHINE), r->machine);
-    read_behind(FAULT(BEHIND_CPU), c->cpu);
-    read_behind(FAULT(BEHIND_MEMORY), c->memory);
-    read_behind(FAULT(BEHIND_RANDOM), c->random);
-    read_behind(FAULT(BEHIND_STRING), c->string);
-    read_behind(FAULT(BEHIND_CPUID) && c->kind == CPUID, c->cpu);
 }
 
 /* the same for the buffers of a counter call */
@@ -131,30 +123,81 @@ static void misuse_ctr(struct run *r)
         c->counter.bytes[c->counter.length - 1]++;
     if (FAULT(CTR_HANDLE_WRITTEN) && c->handle.length)
         c->handle.bytes[0] ^= 1;
-    read_behind(FAULT(BEHIND_HANDLE), c->handle);
-    read_behind(FAULT(BEHIND_COUNTER), c->counter);
-    read_behind(FAULT(BEHIND_DATA), c->data);
+}
+
+/* What valgrind and guards have to see: neither the answer nor what is left differs. */
+static void misuse_quietly(struct run *r)
+{
+    struct call *c = &r->call;
+    bool machine = (FAULT(REWRITES_MACHINE) && r->number) || (FAULT(REWRITES_MACHINE_READ) && c->kind == READ) ||
+                   (FAULT(REWRITES_MACHINE_CTR) && c->kind == CTR);
+    bool cpu = (FAULT(REWRITES_CPU) && r->number) || (FAULT(REWRITES_CPU_CPUID) && c->kind == CPUID);
+    misuse_lent(r->machine, FAULT(BEHIND_MACHINE), FAULT(BEFORE_MACHINE), machine);
+    misuse_lent(c->cpu, FAULT(BEHIND_CPU) || (FAULT(BEHIND_CPUID) && c->kind == CPUID), FAULT(BEFORE_CPU), cpu);
+    misuse_lent(c->memory, FAULT(BEHIND_MEMORY), FAULT(BEFORE_MEMORY), FAULT(REWRITES_MEMORY));
+    misuse_lent(c->random, FAULT(BEHIND_RANDOM), FAULT(BEFORE_RANDOM), FAULT(REWRITES_RANDOM));
+    misuse_lent(c->string, FAULT(BEHIND_STRING), FAULT(BEFORE_STRING), FAULT(REWRITES_STRING));
+    misuse_lent(c->handle, FAULT(BEHIND_HANDLE), FAULT(BEFORE_HANDLE), FAULT(REWRITES_HANDLE));
+    misuse_lent(c->counter, FAULT(BEHIND_COUNTER), FAULT(BEFORE_COUNTER), FAULT(REWRITES_COUNTER));
+    misuse_lent(c->data, FAULT(BEHIND_DATA), FAULT(BEFORE_DATA), FAULT(REWRITES_DATA) && r->number);
+    if (FAULT(BESIDE_MACHINE) && !r->number && c->kind == SETTLE && (uintptr_t)r->machine.bytes % 4096)
+        r->machine.bytes[-1] = 0;
+    if (FAULT(REWRITES_VALUE) && r->number)
+        *(volatile uint64_t *)r->results.value = *r->results.value;
+    if (FAULT(REWRITES_EDX) && r->number)
+        *(volatile uint32_t *)r->results.leaf[EDX] = *r->results.leaf[EDX];
+}
+
+static void make_call(void *argument)
+{
+    struct run *r = argument;
+    r->number = library_call(r);
+    if (FAULTY)
+        misuse(r);
+    if (FAULTY && r->call.kind == CTR)
+        misuse_ctr(r);
+    if (FAULTY)
+        misuse_quietly(r);
+}
+
+/* What keylocker.h says is never written, and all else too where the model says that the call is refused. */
+static void lend_unwritten(const struct trial *t, const struct run *run)
+{
+    const struct call *c = &run->call;
+    struct run model;
+    run_model(t, &model);
+    bool refused = model.number != KEYLOCKER_DONE;
+    run_free(&model);
+    const void *never[] = {c->memory.bytes, c->random.bytes, c->string.bytes, c->handle.bytes, c->counter.bytes};
+    const void *done[] = {c->data.bytes, run->results.value, run->results.leaf[EAX], run->results.leaf[EBX], run->results.leaf[ECX],
+                          run->results.leaf[EDX]};
+    for (size_t i = 0; i < sizeof never / sizeof *never; i++)
+        lend_read_only(never[i]);
+    for (size_t i = 0; refused && i < sizeof done / sizeof *done; i++)
+        lend_read_only(done[i]);
+    if (refused || c->kind == READ || c->kind == CPUID || c->kind == CTR)
+        lend_read_only(run->machine.bytes);
+    if (refused || c->kind == CPUID)
+        lend_read_only(c->cpu.bytes);
 }
 
 void run_library(const struct trial *t, struct run *run)
 {
-    copy_lent(t, run);
-    run->call.memory = exact_copy(t, t->call.memory);
-    run->call.random = exact_copy(t, t->call.random);
-    run->call.string = exact_copy(t, t->call.string);
-    run->call.handle = exact_copy(t, t->call.handle);
-    run->call.counter = exact_copy(t, t->call.counter);
-    run->number = library_call(run);
-    if (FAULTY)
-        misuse(run);
-    if (FAULTY && t->call.kind == CTR)
-        misuse_ctr(run);
+    copy_written(t, true, run);
+    run->call.memory = lent_copy(t, "memory", t->call.memory);
+    run->call.random = lent_copy(t, "random data", t->call.random);
+    run->call.string = lent_copy(t, "string", t->call.string);
+    run->call.handle = lent_copy(t, "handle", t->call.handle);
+    run->call.counter = lent_copy(t, "counter block", t->call.counter);
+    if (lends_guarded())
+        lend_unwritten(t, run);
+    run->touched = touched_by(make_call, run);
 }
 
 /* The model only reads memory, random data, string, handle and counter block: it is lent the trial's own. */
 void run_model(const struct trial *t, struct run *run)
 {
-    copy_lent(t, run);
+    copy_written(t, false, run);
     run->number = model_call(run->machine, &run->call, &run->results);
     run->call.memory.bytes = run->call.random.bytes = run->call.string.bytes = NULL;
     run->call.handle.bytes = run->call.counter.bytes = NULL;
@@ -162,17 +205,17 @@ void run_model(const struct trial *t, struct run *run)
 
 void run_free(struct run *run)
 {
-    free(run->machine.bytes);
-    free(run->call.cpu.bytes);
-    free(run->call.memory.bytes);
-    free(run->call.random.bytes);
-    free(run->call.string.bytes);
-    free(run->call.handle.bytes);
-    free(run->call.counter.bytes);
-    free(run->call.data.bytes);
-    free(run->results.value);
+    take_back(run->machine.bytes);
+    take_back(run->call.cpu.bytes);
+    take_back(run->call.memory.bytes);
+    take_back(run->call.random.bytes);
+    take_back(run->call.string.bytes);
+    take_back(run->call.handle.bytes);
+    take_back(run->call.counter.bytes);
+    take_back(run->call.data.bytes);
+    take_back(run->results.value);
     for (int i = 0; i < LEAF_REGISTERS; i++)
-        free(run->results.leaf[i]);
+        take_back(run->results.leaf[i]);
 }
 
 bool same(struct buffer a, struct buffer b)
@@ -226,6 +269,8 @@ static const char *ctr_difference(const struct trial *t, const struct run *libra
 const char *difference(const struct trial *t, const struct run *library, const struct run *model)
 {
     bool machine_kept = same(library->machine, t->machine), cpu_kept = same(library->call.cpu, t->call.cpu);
+    if (library->touched)
+        return library->touched;
     if (library->number != model->number)
         return "number";
     if (!same(library->machine, model->machine))
@@ -250,8 +295,6 @@ const char *difference(const struct trial *t, const struct run *library, const s
 }
 
 /* ---- reports ---- */
-
-static const char *const leaf_names[LEAF_REGISTERS] = {"EAX", "EBX", "ECX", "EDX"};
 
 void print_buffer(const char *name, struct buffer buffer)
 {

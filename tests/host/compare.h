@@ -4,13 +4,17 @@
 
 #include "trial.h"
 
-/* a call's buffers and results; the library's have exactly their lengths */
+/* a call's buffers and results; the library's are lent, by lend.h */
 struct run {
     struct buffer machine;
     struct call call;
     struct results results;
     uint32_t number;
+    const char *touched; /* what the library touched that it may not, or NULL */
 };
+
+/* no call's answer: that of one that was left in the middle */
+enum { UNANSWERED = 9999 };
 
 /* what the place lent for a read's value holds before */
 extern const uint64_t VALUE_BEFORE;
@@ -26,6 +30,9 @@ const char *difference(const struct trial *t, const struct run *library, const s
 void report(const struct trial *t, const struct run *library, const struct run *model);
 
 bool same(struct buffer a, struct buffer b);
+
+/* Faults around the library's call: a byte behind the buffer or before it is read, or its last byte written with what it holds. */
+void misuse_lent(struct buffer lent, bool behind, bool before, bool rewritten);
 
 /* parts of a report: bytes in hexadecimal, many of them cut; where two sides differ that begin with the same bytes, if they do */
 void print_buffer(const char *name, struct buffer buffer);

@@ -51,6 +51,8 @@ static const char *wide_differs(const struct trial *t, const struct run *library
         other.call.data.bytes[127] ^= 1;
     bool alike = other.number == library->number && same(other.call.cpu, library->call.cpu) && same(other.call.data, library->call.data);
     run_free(&other);
+    if (other.touched)
+        return other.touched;
     return alike ? NULL : "the wide bit changes a counter call";
 }
 

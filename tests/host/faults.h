@@ -331,7 +331,7 @@
     X(KEYRING_LABEL_WRITTEN, "a label is written")                                                     \
     X(KEYRING_HANDLE_WRITTEN, "a handle that is added is written")                                     \
     X(KEYRING_WRITES_BEHIND, "a byte behind a handle is written")                                      \
-    /* seen only under valgrind */                                                                     \
+    /* seen only under valgrind, and between guards */                                                 \
     X(BEHIND_MACHINE, "a byte behind the machine is read")                                             \
     X(BEHIND_CPU, "a byte behind the CPU record is read")                                              \
     X(BEHIND_MEMORY, "a byte behind memory is read")                                                   \
@@ -343,7 +343,39 @@
     X(BEHIND_ADDED, "a byte behind the handle that is added is read")                                  \
     X(BEHIND_HANDLE, "a byte behind the handle of a counter call is read")                             \
     X(BEHIND_COUNTER, "a byte behind a counter block is read")                                         \
-    X(BEHIND_DATA, "a byte behind the data of a counter call is read")
+    X(BEHIND_DATA, "a byte behind the data of a counter call is read")                                 \
+    X(BEFORE_MACHINE, "a byte before the machine is read")                                             \
+    X(BEFORE_CPU, "a byte before the CPU record is read")                                              \
+    X(BEFORE_MEMORY, "a byte before memory is read")                                                   \
+    X(BEFORE_RANDOM, "a byte before the random data is read")                                          \
+    X(BEFORE_STRING, "a byte before the string is read")                                               \
+    X(BEFORE_KEYRING, "a byte before the keyring is read")                                             \
+    X(BEFORE_LABEL, "a byte before the label is read")                                                 \
+    X(BEFORE_ADDED, "a byte before the handle that is added is read")                                  \
+    X(BEFORE_HANDLE, "a byte before the handle of a counter call is read")                             \
+    X(BEFORE_COUNTER, "a byte before a counter block is read")                                         \
+    X(BEFORE_DATA, "a byte before the data of a counter call is read")                                 \
+    /* seen only between guards */                                                                     \
+    X(BESIDE_MACHINE, "a settle writes a byte before the machine that is in the same page")            \
+    X(REWRITES_MACHINE, "a refused call writes the machine as it is")                                  \
+    X(REWRITES_MACHINE_READ, "a read writes the machine as it is")                                     \
+    X(REWRITES_MACHINE_CTR, "a counter call writes the machine as it is")                              \
+    X(REWRITES_CPU, "a refused call writes the CPU record as it is")                                   \
+    X(REWRITES_CPU_CPUID, "CPUID writes the CPU record as it is")                                      \
+    X(REWRITES_MEMORY, "memory is written as it is")                                                   \
+    X(REWRITES_RANDOM, "random data is written as it is")                                              \
+    X(REWRITES_STRING, "the string is written as it is")                                               \
+    X(REWRITES_HANDLE, "the handle of a counter call is written as it is")                             \
+    X(REWRITES_COUNTER, "a counter block is written as it is")                                         \
+    X(REWRITES_DATA, "a refused counter call writes the data as it is")                                \
+    X(REWRITES_VALUE, "a refused read writes the value as it is")                                      \
+    X(REWRITES_EDX, "a refused CPUID writes EDX as it is")                                             \
+    X(REWRITES_KEYRING, "a refused call writes the keyring as it is")                                  \
+    X(REWRITES_KEYRING_LOOKUP, "a lookup writes the keyring as it is")                                 \
+    X(REWRITES_LABEL, "a label is written as it is")                                                   \
+    X(REWRITES_ADDED, "a handle that is added is written as it is")                                    \
+    X(REWRITES_FOUND, "a refused lookup writes the handle as it is")                                   \
+    X(REWRITES_KIND, "a refused lookup writes the kind as it is")
 
 enum fault {
     FAULT_NONE,

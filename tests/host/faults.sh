@@ -8,7 +8,7 @@ calls=60000
 keyrings=20000
 work=build/faults
 mkdir -p "$work"
-missed=0
+more=$*
 found=0
 
 # the files in which the fault is planted, and faults.c, which tells the runner
@@ -24,43 +24,53 @@ build() {
     $CC -o "$work/runner" $objects $planted target/staticlib/libkeylocker.a
 }
 
+# Whether the runner finds the fault; $how says where.
+by_comparison() {
+    status=0
+    "$work/runner" "$@" $more >"$work/log" 2>&1 || status=$?
+    call=$(sed -n 's/^difference at call \([0-9]*\): .*/\1/p' "$work/log")
+    what=$(sed -n 's/^difference at call [0-9]*: //p' "$work/log")
+    how="$how at call $call ($what)"
+    [ "$status" -eq 1 ] && [ -n "$call" ]
+}
+
+by_guard() {
+    by_comparison --guarded --calls 6000 --keyrings 600 && echo "$what" | grep -q 'guard: '
+}
+
+by_valgrind() {
+    status=0
+    how=" by valgrind and"
+    valgrind --quiet --error-exitcode=3 --exit-on-first-error=yes "$work/runner" --calls 300 --keyrings 20 $more >"$work/log" 2>&1 || status=$?
+    [ "$status" -eq 3 ] && grep -q "Invalid read" "$work/log"
+}
+
+search() {
+    how=
+    case "$1" in
+    BEHIND_* | BEFORE_*) by_valgrind && by_guard ;;
+    BESIDE_* | REWRITES_*) by_guard ;;
+    KEYRING_*) by_comparison --calls 0 --keyrings "$keyrings" ;;
+    *) by_comparison --calls "$calls" --keyrings 0 ;;
+    esac
+}
+
 build/test_host --faults >"$work/list"
 while read -r number name text; do
     if ! grep -q "FAULT($name)" tests/host/*.c; then
         echo "fault $number ($text): not planted anywhere"
-        missed=$((missed + 1))
         continue
     fi
     build "$number" "$name"
-    status=0
-    case "$name" in
-    BEHIND_*)
-        valgrind --quiet --error-exitcode=3 --exit-on-first-error=yes "$work/runner" --calls 300 --keyrings 20 "$@" >"$work/log" 2>&1 || status=$?
-        if [ "$status" -eq 3 ] && grep -q "Invalid read" "$work/log"; then
-            echo "fault $number ($text): found by valgrind"
-            found=$((found + 1))
-        else
-            echo "fault $number ($text): NOT found by valgrind (exit $status)"
-            missed=$((missed + 1))
-        fi
-        continue
-        ;;
-    esac
-    case "$name" in
-    KEYRING_*) amount="--calls 0 --keyrings $keyrings" ;;
-    *) amount="--calls $calls --keyrings 0" ;;
-    esac
-    "$work/runner" $amount "$@" >"$work/log" 2>&1 || status=$?
-    call=$(sed -n 's/^difference at call \([0-9]*\): .*/\1/p' "$work/log")
-    what=$(sed -n 's/^difference at call [0-9]*: //p' "$work/log")
-    if [ "$status" -eq 1 ] && [ -n "$call" ]; then
-        echo "fault $number ($text): found at call $call ($what)"
+    if search "$name"; then
+        echo "fault $number ($text): found$how"
         found=$((found + 1))
     else
-        echo "fault $number ($text): NOT found with $amount (exit $status)"
-        missed=$((missed + 1))
+        echo "fault $number ($text): NOT found$how (exit $status)"
     fi
 done <"$work/list"
 
-echo "$found faults found, $missed not"
-[ "$found" -ge 24 ] && [ "$missed" -eq 0 ]
+listed=$(wc -l <"$work/list")
+declared=$(grep -c '^    X(' tests/host/faults.h)
+echo "$found faults found of $listed that the runner lists and $declared that faults.h has"
+[ "$found" -gt 0 ] && [ "$found" -eq "$listed" ] && [ "$listed" -eq "$declared" ]

@@ -7,6 +7,7 @@
 #include "chance.h"
 #include "keyring_alter.h"
 #include "keyring_coverage.h"
+#include "lend.h"
 
 /* a shorter run may miss rare events */
 enum { KEYRINGS_FOR_COVERAGE = 80000, BESIDE_MOST = 9 };
@@ -80,6 +81,8 @@ static struct ring_call some_call(const struct ring *lent, bool adds)
     some_handle(c.handle);
     c.null_if_empty = one_in(2);
     c.beside = one_in(2) ? 0 : 1 + below(BESIDE_MOST);
+    if (lends_guarded())
+        c.beside = 0;
     return c;
 }
 
@@ -228,7 +231,7 @@ bool keyring_runs_alike(uint64_t seed, uint64_t keyrings)
     chance_seed(seed);
     for (uint64_t n = 1; n <= keyrings; n++)
         if (one_keyring()) {
-            printf("again: build/test_host --seed %" PRIu64 " --calls 0 --keyrings %" PRIu64 "\n", seed, n);
+            printf("again: build/test_host --seed %" PRIu64 " --calls 0 --keyrings %" PRIu64 "%s\n", seed, n, lends_guarded() ? " --guarded" : "");
             return false;
         }
     print_ring_coverage();

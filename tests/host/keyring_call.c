@@ -1,26 +1,24 @@
 #include "keyring_call.h"
 
 #include <stdio.h>
-#include <stdlib.h>
 #include <string.h>
 
 #include "compare.h"
 #include "faults.h"
 #include "keylocker.h"
+#include "lend.h"
 
 /* what stands beside the buffers, and where a lookup may write */
 enum { BESIDE = 0xB5, BEFORE = 0xA5 };
 
 /* ---- lending ---- */
 
-static struct lent lend(const struct ring_call *c, const uint8_t *bytes, size_t length)
+static struct lent lend_between(const struct ring_call *c, const char *name, const uint8_t *bytes, size_t length)
 {
     struct lent lent = {NULL, {NULL, length}};
     if (length == 0 && c->null_if_empty)
         return lent;
-    lent.room = malloc(length + 2 * c->beside);
-    if (!lent.room)
-        abort();
+    lent.room = lend(name, NULL, length + 2 * c->beside);
     memset(lent.room, BESIDE, c->beside);
     lent.buffer.bytes = lent.room + c->beside;
     if (bytes)
@@ -44,29 +42,30 @@ static bool all_beside_is_kept(const struct ring_call *c, const struct ring_run 
     return beside_is_kept(c, &run->ring) && beside_is_kept(c, &run->label) && beside_is_kept(c, &run->handle) && beside_is_kept(c, &run->kind);
 }
 
-static void lend_all(const struct ring_call *c, struct ring_run *run)
+static void lend_all(const struct ring_call *c, bool library, struct ring_run *run)
 {
-    run->ring = lend(c, c->ring->bytes, c->ring->length);
-    run->label = lend(c, c->label, c->label_length);
-    run->handle = c->adds ? lend(c, c->handle, c->handle_length) : lend(c, NULL, HANDLE_256);
-    run->kind = lend(c, NULL, 1);
+    run->ring = lend_between(c, library ? "keyring" : NULL, c->ring->bytes, c->ring->length);
+    run->label = lend_between(c, library ? "label" : NULL, c->label, c->label_length);
+    run->handle = lend_between(c, library ? "handle" : NULL, c->adds ? c->handle : NULL, c->adds ? c->handle_length : HANDLE_256);
+    run->kind = lend_between(c, library ? "kind" : NULL, NULL, 1);
+    run->number = UNANSWERED;
+    run->touched = NULL;
 }
 
 void ring_run_free(struct ring_run *run)
 {
-    free(run->ring.room);
-    free(run->label.room);
-    free(run->handle.room);
-    free(run->kind.room);
+    take_back(run->ring.room);
+    take_back(run->label.room);
+    take_back(run->handle.room);
+    take_back(run->kind.room);
 }
 
 /* ---- the calls ---- */
 
-/* What the comparison and valgrind have to see, done in the library's stead. */
+/* What the comparison, valgrind and guards have to see, done in the library's stead. */
 static void misuse(const struct ring_call *c, struct ring_run *run)
 {
     struct buffer ring = run->ring.buffer, label = run->label.buffer, handle = run->handle.buffer;
-    volatile uint8_t behind = 0;
     if (FAULT(KEYRING_REFUSED_WRITES) && run->number && ring.length)
         ring.bytes[ring.length - 1] ^= 1;
     if (FAULT(KEYRING_REFUSED_WRITES_KIND) && run->number && !c->adds)
@@ -81,28 +80,57 @@ static void misuse(const struct ring_call *c, struct ring_run *run)
         handle.bytes[0] ^= 1;
     if (FAULT(KEYRING_WRITES_BEHIND) && c->beside)
         handle.bytes[handle.length] = 0;
-    if (FAULT(BEHIND_KEYRING) && ring.bytes)
-        behind = ring.bytes[ring.length];
-    if (FAULT(BEHIND_LABEL) && label.bytes)
-        behind = label.bytes[label.length];
-    if (FAULT(BEHIND_ADDED) && c->adds && handle.bytes)
-        behind = handle.bytes[handle.length];
-    (void)behind;
+    misuse_lent(ring, FAULT(BEHIND_KEYRING), FAULT(BEFORE_KEYRING), (FAULT(REWRITES_KEYRING) && run->number) || (FAULT(REWRITES_KEYRING_LOOKUP) && !c->adds));
+    misuse_lent(label, FAULT(BEHIND_LABEL), FAULT(BEFORE_LABEL), FAULT(REWRITES_LABEL));
+    misuse_lent(handle, FAULT(BEHIND_ADDED) && c->adds, FAULT(BEFORE_ADDED) && c->adds,
+                (FAULT(REWRITES_ADDED) && c->adds) || (FAULT(REWRITES_FOUND) && !c->adds && run->number));
+    misuse_lent(run->kind.buffer, false, false, FAULT(REWRITES_KIND) && !c->adds && run->number);
+}
+
+struct ring_made {
+    const struct ring_call *call;
+    struct ring_run *run;
+};
+
+static void make_call(void *argument)
+{
+    const struct ring_made *made = argument;
+    struct ring_run *run = made->run;
+    struct buffer ring = run->ring.buffer, label = run->label.buffer, handle = run->handle.buffer;
+    run->number = made->call->adds ? keylocker_keyring_add(ring.bytes, ring.length, label.bytes, label.length, handle.bytes, handle.length)
+                                   : keylocker_keyring_lookup(ring.bytes, ring.length, label.bytes, label.length, run->kind.buffer.bytes, handle.bytes);
+    if (FAULTY)
+        misuse(made->call, run);
+}
+
+/* what keylocker.h says is never written, and all else too where the model says that the call is refused */
+static void lend_unwritten(const struct ring_call *c, const struct ring_run *run)
+{
+    struct ring_run model;
+    ring_run_model(c, &model);
+    bool refused = model.number != KEYLOCKER_DONE;
+    ring_run_free(&model);
+    lend_read_only(run->label.room);
+    if (refused || !c->adds)
+        lend_read_only(run->ring.room);
+    if (refused || c->adds)
+        lend_read_only(run->handle.room);
+    if (refused)
+        lend_read_only(run->kind.room);
 }
 
 void ring_run_library(const struct ring_call *c, struct ring_run *run)
 {
-    lend_all(c, run);
-    struct buffer ring = run->ring.buffer, label = run->label.buffer, handle = run->handle.buffer;
-    run->number = c->adds ? keylocker_keyring_add(ring.bytes, ring.length, label.bytes, label.length, handle.bytes, handle.length)
-                          : keylocker_keyring_lookup(ring.bytes, ring.length, label.bytes, label.length, run->kind.buffer.bytes, handle.bytes);
-    if (FAULTY)
-        misuse(c, run);
+    struct ring_made made = {c, run};
+    lend_all(c, true, run);
+    if (lends_guarded())
+        lend_unwritten(c, run);
+    run->touched = touched_by(make_call, &made);
 }
 
 void ring_run_model(const struct ring_call *c, struct ring_run *run)
 {
-    lend_all(c, run);
+    lend_all(c, false, run);
     run->number = c->adds ? model_add(run->ring.buffer, run->label.buffer, run->handle.buffer)
                           : model_lookup(run->ring.buffer, run->label.buffer, run->kind.buffer.bytes, run->handle.buffer.bytes);
 }
@@ -125,6 +153,8 @@ static bool results_are_kept(const struct ring_run *run)
 
 const char *ring_difference(const struct ring_call *c, const struct ring_run *library, const struct ring_run *model)
 {
+    if (library->touched)
+        return library->touched;
     if (library->number != model->number)
         return "number";
     if (!same(library->ring.buffer, model->ring.buffer))

@@ -12,7 +12,7 @@ struct ring_call {
     uint8_t label[LABEL_ROOM], handle[HANDLE_ROOM]; /* the handle is that of an add */
     size_t label_length, handle_length;
     bool null_if_empty; /* buffers of no bytes are null pointers */
-    size_t beside;      /* bytes on both sides of each buffer; where there are none, valgrind sees what is read there */
+    size_t beside;      /* bytes on both sides of each buffer; where there are none, valgrind or a guard sees what is read there */
     bool meant_refused, meant_keyring; /* with 15; with anything but 15 */
 };
 
@@ -24,6 +24,7 @@ struct lent {
 
 struct ring_run {
     uint32_t number;
+    const char *touched; /* what the library touched that it may not, or NULL */
     struct lent ring, label, handle; /* the handle that is added, or where the one that is found goes */
     struct lent kind;
 };

@@ -16,6 +16,7 @@
 #include "generate.h"
 #include "idle.h"
 #include "keyring.h"
+#include "lend.h"
 #include "lengths.h"
 #include "prefixes.h"
 #include "probe.h"
@@ -30,6 +31,7 @@ static struct trial trial;
 
 struct options {
     uint64_t seed, calls, keyrings;
+    bool guarded;
     const char *vectors;
 };
 
@@ -126,7 +128,7 @@ static int run(const struct options *options)
         if (differs) {
             printf("difference at call %" PRIu64 ": %s\n", call, differs);
             report(&trial, &library, &model);
-            printf("again: build/test_host --seed %" PRIu64 " --calls %" PRIu64 "\n", options->seed, call);
+            printf("again: build/test_host --seed %" PRIu64 " --calls %" PRIu64 "%s\n", options->seed, call, options->guarded ? " --guarded" : "");
         }
         run_free(&library);
         run_free(&model);
@@ -159,17 +161,19 @@ static uint64_t parse_number(const char *text)
 
 static void parse(int argc, char **argv, struct options *options)
 {
-    for (int i = 1; i < argc; i += 2) {
-        if (i + 1 < argc && strcmp(argv[i], "--seed") == 0)
-            options->seed = strcmp(argv[i + 1], "random") == 0 ? (uint64_t)time(NULL) : parse_number(argv[i + 1]);
+    for (int i = 1; i < argc; i++) {
+        if (strcmp(argv[i], "--guarded") == 0)
+            options->guarded = true;
+        else if (i + 1 < argc && strcmp(argv[i], "--seed") == 0)
+            options->seed = strcmp(argv[++i], "random") == 0 ? (uint64_t)time(NULL) : parse_number(argv[i]);
         else if (i + 1 < argc && strcmp(argv[i], "--calls") == 0)
-            options->calls = parse_number(argv[i + 1]);
+            options->calls = parse_number(argv[++i]);
         else if (i + 1 < argc && strcmp(argv[i], "--keyrings") == 0)
-            options->keyrings = parse_number(argv[i + 1]);
+            options->keyrings = parse_number(argv[++i]);
         else if (i + 1 < argc && strcmp(argv[i], "--vectors") == 0)
-            options->vectors = argv[i + 1];
+            options->vectors = argv[++i];
         else {
-            fprintf(stderr, "usage: %s [--seed N | --seed random] [--calls N] [--keyrings N] [--vectors DIRECTORY] | --faults\n", argv[0]);
+            fprintf(stderr, "usage: %s [--guarded] [--seed N | --seed random] [--calls N] [--keyrings N] [--vectors DIRECTORY] | --faults\n", argv[0]);
             exit(2);
         }
     }
@@ -185,6 +189,10 @@ int main(int argc, char **argv)
         options.keyrings = options.calls / 5 * 2;
     printf("seed %" PRIu64 "\n", options.seed);
     fflush(stdout);
+    if (options.guarded && !lend_guarded()) {
+        perror("pages between guards");
+        return 2;
+    }
     aes_start();
     /* a planted fault has to be found by the random calls */
     if (!planted_fault() && (!model_meets_vectors(options.vectors) || !library_meets_lengths() || !library_meets_prefixes() || !library_meets_taken() ||
@@ -198,6 +206,7 @@ int main(int argc, char **argv)
     int status = run(&options);
     if (status == 0 && options.keyrings && !keyring_runs_alike(options.seed, options.keyrings))
         status = 1;
+    print_lent();
     for (int i = 0; i < MACHINES; i++)
         history_free(&world.machines[i].history);
     free(trial.memory_room);

@@ -1,5 +1,6 @@
 #include "taken.h"
 
+#include <stdio.h>
 #include <string.h>
 
 #include "worked.h"
@@ -47,21 +48,25 @@ static void prepare(struct trial *t, const struct platform_call *call, struct ma
     t->call.value = 1;
 }
 
-/* what the library leaves */
-static struct machine left(struct trial *t, const struct platform_call *call, struct machine m)
+/* what the library leaves; false if it touched what it may not */
+static bool leaves(struct trial *t, const struct platform_call *call, struct machine m, struct machine *left)
 {
     struct run library;
     prepare(t, call, m);
     run_library(t, &library);
-    memcpy(&m, library.machine.bytes, sizeof m);
+    memcpy(left, library.machine.bytes, sizeof *left);
+    if (library.touched)
+        printf("worked out by hand: %s\n", library.touched);
     run_free(&library);
-    return m;
+    return !library.touched;
 }
 
 /* The call leaves the same with a taken before it and without; only where it leaves the backup pending is that still consumed. */
 static bool acts_as_before(struct trial *t, const struct platform_call *call, struct machine m)
 {
-    struct machine wanted = left(t, call, m);
+    struct machine wanted;
+    if (!leaves(t, call, m, &wanted))
+        return false;
     if (m.pending && wanted.pending)
         wanted.consumed = 1;
     prepare(t, call, taken(m));

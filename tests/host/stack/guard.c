@@ -1,18 +1,16 @@
-#define _DEFAULT_SOURCE /* mmap's MAP_ANONYMOUS, sigaltstack */
+#define _DEFAULT_SOURCE /* mmap's MAP_ANONYMOUS */
 
 #include "guard.h"
 
-#include <setjmp.h>
-#include <signal.h>
 #include <stdint.h>
 #include <sys/mman.h>
 
+#include "../catch.h"
+
 /* The library probes a frame of more than a page once a page, so no access skips this many. */
-enum { GUARD = 65536, HANDLER_STACK = 65536 };
+enum { GUARD = 65536 };
 
 static uint8_t *room;
-static sigjmp_buf before_call;
-static volatile sig_atomic_t calling;
 
 /* read by the assembly below */
 uint8_t *small_stack_top;
@@ -67,36 +65,17 @@ const struct entries on_normal_stack = {keylocker_power_on, keylocker_step,   ke
 const struct entries on_small_stack = {small_power_on, small_step,   small_ctr,   small_cpuid, small_read,           small_write,
                                        small_taken,    small_settle, small_sleep, small_reset, small_keyring_lookup, small_keyring_add};
 
-/* The library keeps nothing between calls, so a call can be left in the middle. */
-static void on_fault(int number, siginfo_t *info, void *context)
-{
-    (void)context;
-    if (calling && (uintptr_t)room - (uintptr_t)info->si_addr <= GUARD)
-        siglongjmp(before_call, 1);
-    signal(number, SIG_DFL); /* not the guard: the access comes again and ends the program */
-}
-
 bool guard_start(void)
 {
-    static uint8_t handler_stack[HANDLER_STACK];
-    stack_t handler = {.ss_sp = handler_stack, .ss_size = sizeof handler_stack};
-    struct sigaction action = {.sa_sigaction = on_fault, .sa_flags = SA_SIGINFO | SA_ONSTACK};
     uint8_t *all = mmap(NULL, GUARD + STACK_ROOM, PROT_READ | PROT_WRITE, MAP_PRIVATE | MAP_ANONYMOUS, -1, 0);
     if (all == MAP_FAILED || mprotect(all, GUARD, PROT_NONE) != 0)
         return false;
     room = all + GUARD;
-    return sigaltstack(&handler, NULL) == 0 && sigaction(SIGSEGV, &action, NULL) == 0;
+    return catch_start(all, GUARD);
 }
 
 bool runs_on(size_t bytes, void (*make)(void *argument), void *argument)
 {
     small_stack_top = room + bytes;
-    if (sigsetjmp(before_call, 1) != 0) {
-        calling = 0;
-        return false;
-    }
-    calling = 1;
-    make(argument);
-    calling = 0;
-    return true;
+    return caught(make, argument) == NULL;
 }

@@ -2,7 +2,11 @@
 
 #include <string.h>
 
-enum { COUNT = 16, PROCESSOR = COUNT - 1, HALF = KEYLOCKER_HANDLE_256_SIZE };
+#include "../chance.h"
+
+/* a handle's head is AAD and tag */
+enum { COUNT = 16, PROCESSOR = COUNT - 1, HALF = KEYLOCKER_HANDLE_256_SIZE, HANDLE_HEAD = 32, SEED = 1 };
+enum { PROCESSOR_ENTRY = KEYLOCKER_MACHINE_ENTRIES + PROCESSOR * KEYLOCKER_ENTRY_SIZE };
 
 /* labels of a full keyring, by number from 1 on; they are all on chain 0, the first one added at its end */
 enum { LABELS = KEYLOCKER_KEYRING_LIMIT / KEYLOCKER_KEYRING_RECORD - 1, NEW_LABEL = LABELS + 1 };
@@ -57,6 +61,8 @@ static void without_string(struct lent *lent)
 
 static void at_cpl_3(struct lent *lent) { lent->cpu[KEYLOCKER_CPU_CPL] = 3; }
 
+static void with_machine_cut(struct lent *lent) { lent->machine_length--; }
+
 static void with_bad_machine(struct lent *lent) { lent->machine[KEYLOCKER_MACHINE_CONSUMED] = 2; }
 
 static void with_bad_cpu(struct lent *lent) { lent->cpu[KEYLOCKER_CPU_CPL] = 4; }
@@ -70,7 +76,7 @@ static void not_canonical(struct lent *lent) { reg(lent, KEYLOCKER_RAX)[7] = 1; 
 /* the processor's key is no longer that of the backup, so that a copy in shows */
 static void with_zero_key(struct lent *lent)
 {
-    memset(lent->machine + KEYLOCKER_MACHINE_ENTRIES + PROCESSOR * KEYLOCKER_ENTRY_SIZE, 0, KEYLOCKER_IWKEY_SIZE);
+    memset(lent->machine + PROCESSOR_ENTRY, 0, KEYLOCKER_IWKEY_SIZE);
 }
 
 static void with_pending(struct lent *lent)
@@ -106,6 +112,8 @@ static void with_longer_other_tag(struct lent *lent)
 
 static void with_handle_cut(struct lent *lent) { lent->handle_length--; }
 
+#define OF_OTHER_LENGTH(name, call, number) {name ", a machine of another length", call, number, with_machine_cut, KEYLOCKER_BAD_MACHINE, false, false}
+
 /* a counter call over so many bytes, none of which it writes where there are none */
 #define COUNTED(name, length)                                                                      \
     {name ", AES-128", CTR, length, NULL, 0, false, (length) != 0},                                \
@@ -121,29 +129,37 @@ static void with_handle_cut(struct lent *lent) { lent->handle_length--; }
 const struct kind kinds[] = {
     {"power-on", POWER_ON, COUNT, NULL, 0, false, true},
     {"power-on, refused", POWER_ON, COUNT + 1, NULL, KEYLOCKER_BAD_MACHINE, false, false},
+    OF_OTHER_LENGTH("power-on", POWER_ON, COUNT),
     {"CPUID leaf 7", CPUID, 7, NULL, 0, false, false},
     {"CPUID leaf 0x19", CPUID, 0x19, at_cpl_3, 0, false, false},
     {"CPUID, another leaf", CPUID, 0, NULL, 0, false, false},
     {"CPUID, machine refused", CPUID, 0x19, with_bad_machine, KEYLOCKER_BAD_MACHINE, false, false},
     {"CPUID, CPU record refused", CPUID, 0x19, with_bad_cpu, KEYLOCKER_BAD_CPU, false, false},
+    OF_OTHER_LENGTH("CPUID", CPUID, 0x19),
     {"read 0x990", READ, KEYLOCKER_COPY_STATUS, NULL, 0, false, false},
     {"read 0x991", READ, KEYLOCKER_IWKEYBACKUP_STATUS, NULL, 0, false, false},
     {"read, refused", READ, KEYLOCKER_COPY_LOCAL_TO_PLATFORM, NULL, KEYLOCKER_GP, false, false},
+    OF_OTHER_LENGTH("read", READ, KEYLOCKER_COPY_STATUS),
     {"write 0xD91", WRITE, KEYLOCKER_COPY_LOCAL_TO_PLATFORM, NULL, 0, false, true},
     {"write 0xD92", WRITE, KEYLOCKER_COPY_PLATFORM_TO_LOCAL, with_zero_key, 0, false, true},
     {"write, refused", WRITE, KEYLOCKER_COPY_STATUS, NULL, KEYLOCKER_GP, false, false},
+    OF_OTHER_LENGTH("write", WRITE, KEYLOCKER_COPY_LOCAL_TO_PLATFORM),
     {"taken", TAKEN, 0, with_pending, 0, false, true},
     {"taken, nothing pending", TAKEN, 0, NULL, 0, false, false},
     {"taken, refused", TAKEN, 0, with_bad_machine, KEYLOCKER_BAD_MACHINE, false, false},
+    OF_OTHER_LENGTH("taken", TAKEN, 0),
     {"settle, good", SETTLE, KEYLOCKER_SETTLE_GOOD, with_pending, 0, false, true},
     {"settle, bad", SETTLE, KEYLOCKER_SETTLE_BAD, with_pending, 0, false, true},
     {"settle, refused", SETTLE, 2, with_pending, KEYLOCKER_BAD_CODE, false, false},
+    OF_OTHER_LENGTH("settle", SETTLE, KEYLOCKER_SETTLE_GOOD),
     {"sleep, old", SLEEP, KEYLOCKER_WAKE_OLD, with_pending, 0, false, true},
     {"sleep, new", SLEEP, KEYLOCKER_WAKE_NEW, with_pending, 0, false, true},
     {"sleep, junk", SLEEP, KEYLOCKER_WAKE_JUNK, with_pending, 0, false, true},
     {"sleep, refused", SLEEP, 3, with_pending, KEYLOCKER_BAD_CODE, false, false},
+    OF_OTHER_LENGTH("sleep", SLEEP, KEYLOCKER_WAKE_OLD),
     {"reset", RESET, 0, NULL, 0, false, true},
     {"reset, refused", RESET, 0, with_bad_machine, KEYLOCKER_BAD_MACHINE, false, false},
+    OF_OTHER_LENGTH("reset", RESET, 0),
     {"LOADIWKEY", STEP, LOAD, NULL, 0, false, true},
     {"LOADIWKEY, random data", STEP, LOAD, with_random, 0, false, true},
     {"LOADIWKEY, random data not ready", STEP, LOAD, without_random, 0, true, false},
@@ -166,6 +182,7 @@ const struct kind kinds[] = {
     {"step, LOADIWKEY's #GP", STEP, LOAD, at_cpl_3, KEYLOCKER_GP, false, false},
     {"step, a use's #GP", STEP, ENC_128, not_canonical, KEYLOCKER_GP, false, false},
     {"step, #PF", STEP, ENC_128, outside_memory, KEYLOCKER_PF, false, false},
+    OF_OTHER_LENGTH("step", STEP, ENC_128),
     COUNTED("ctr, no bytes", 0),
     COUNTED("ctr, 16 bytes", 16),
     COUNTED("ctr, 1,021 bytes", 1021),
@@ -177,6 +194,7 @@ const struct kind kinds[] = {
     {"ctr, CPU record refused", CTR, 1021, with_bad_cpu, KEYLOCKER_BAD_CPU, false, false},
     {"ctr, size refused", CTR, 1021, with_handle_cut, KEYLOCKER_BAD_SIZE, false, false},
     {"ctr, #UD", CTR, 1021, without_cr4_kl, KEYLOCKER_UD, false, false},
+    OF_OTHER_LENGTH("ctr", CTR, 1021),
     {"keyring lookup, the last of a chain", LOOKUP, 1, NULL, 0, false, false},
     {"keyring lookup, no such label", LOOKUP, NEW_LABEL, NULL, KEYLOCKER_NO_LABEL, false, false},
     {"keyring lookup, refused", LOOKUP, 1, with_cycle, KEYLOCKER_BAD_KEYRING, false, false},
@@ -198,20 +216,20 @@ static void put_string(struct lent *lent, uint32_t string)
 
 static uint32_t step(const struct entries *entries, struct lent *lent)
 {
-    return entries->step(lent->machine, sizeof lent->machine, PROCESSOR, lent->cpu, sizeof lent->cpu, lent->memory, sizeof lent->memory, lent->random,
+    return entries->step(lent->machine, lent->machine_length, PROCESSOR, lent->cpu, sizeof lent->cpu, lent->memory, sizeof lent->memory, lent->random,
                          lent->random_length, lent->string, lent->string_length);
 }
 
 static uint32_t ctr(const struct entries *entries, struct lent *lent)
 {
     const uint8_t *handle = lent->memory + (lent->handle_length == KEYLOCKER_HANDLE_256_SIZE ? HALF : 0);
-    return entries->ctr(lent->machine, sizeof lent->machine, PROCESSOR, lent->cpu, sizeof lent->cpu, handle, lent->handle_length, lent->counter,
+    return entries->ctr(lent->machine, lent->machine_length, PROCESSOR, lent->cpu, sizeof lent->cpu, handle, lent->handle_length, lent->counter,
                         sizeof lent->counter, lent->buffer, lent->buffer_length);
 }
 
 static uint32_t cpuid(const struct entries *entries, uint32_t leaf, struct lent *lent)
 {
-    return entries->cpuid(lent->machine, sizeof lent->machine, lent->cpu, sizeof lent->cpu, leaf, 0, &lent->leaf[0], &lent->leaf[1], &lent->leaf[2],
+    return entries->cpuid(lent->machine, lent->machine_length, lent->cpu, sizeof lent->cpu, leaf, 0, &lent->leaf[0], &lent->leaf[1], &lent->leaf[2],
                           &lent->leaf[3]);
 }
 
@@ -227,7 +245,7 @@ static uint32_t add(const struct entries *entries, struct lent *lent)
 
 static uint32_t answer(const struct kind *kind, const struct entries *entries, struct lent *lent)
 {
-    size_t length = sizeof lent->machine;
+    size_t length = lent->machine_length;
     switch (kind->call) {
     case POWER_ON:
         return entries->power_on(lent->machine, length, (uint8_t)kind->number, KEYLOCKER_FEATURE_ALL);
@@ -263,23 +281,45 @@ void make_call(const struct kind *kind, const struct entries *entries, struct le
 
 /* ---- before and after ---- */
 
-/* XMM0 to XMM15 different from each other, the handles' addresses in RAX and RDX */
+/* other bytes in XMM0 to XMM15 each time, the handles' addresses in RAX and RDX */
 static void put_registers(struct lent *lent)
 {
     memset(lent->cpu, 0, sizeof lent->cpu);
-    for (int i = 0; i < 256; i++)
-        lent->cpu[KEYLOCKER_CPU_XMM + i] = (uint8_t)(7 * i + 1);
+    any_bytes(lent->cpu + KEYLOCKER_CPU_XMM, 256);
     reg(lent, KEYLOCKER_RDX)[0] = HALF;
     lent->cpu[KEYLOCKER_CPU_CONTROL] = KEYLOCKER_CONTROL_CR4_KL | KEYLOCKER_CONTROL_CR4_OSFXSR;
 }
 
-static bool encode(struct lent *lent, uint32_t string, uint8_t *handle, size_t length)
+static bool encode(struct lent *lent, uint32_t string, uint8_t *handle, size_t length, uint8_t *key)
 {
     put_registers(lent);
     put_string(lent, string);
+    memcpy(key, lent->cpu + KEYLOCKER_CPU_XMM, length - HANDLE_HEAD);
     bool done = step(&on_normal_stack, lent) == KEYLOCKER_DONE;
     memcpy(handle, lent->cpu + KEYLOCKER_CPU_XMM, length);
     return done;
+}
+
+bool is_loadiwkey(const struct kind *kind) { return kind->call == STEP && kind->number == LOAD; }
+
+bool is_idle(const struct kind *kind, const struct lent *lent) { return kind->call == STEP && !lent->string_length; }
+
+const uint8_t *processor_iwkey(const struct lent *lent) { return lent->machine + PROCESSOR_ENTRY; }
+
+/* whether the key has the longer size, of a step that has one */
+static bool has_longer_key(uint32_t string)
+{
+    return string == ENCODE_256 || string == ENC_256 || string == DEC_256 || string == ENC_WIDE_256 || string == DEC_WIDE_256;
+}
+
+size_t key_of(const struct kind *kind, const struct lent *before, const uint8_t **key)
+{
+    bool encodes = kind->call == STEP && (kind->number == ENCODE_128 || kind->number == ENCODE_256);
+    bool longer = kind->call == STEP ? has_longer_key(kind->number) : before->handle_length == KEYLOCKER_HANDLE_256_SIZE;
+    *key = encodes ? before->cpu + KEYLOCKER_CPU_XMM : before->keys[longer];
+    if ((kind->call != STEP && kind->call != CTR) || is_loadiwkey(kind) || is_idle(kind, before))
+        return 0;
+    return longer ? 32 : 16;
 }
 
 static bool is_keyring_call(const struct kind *kind) { return kind->call == LOOKUP || kind->call == ADD; }
@@ -305,8 +345,10 @@ static bool fill_keyring(struct lent *lent)
 /* a key on the last processor that persistent storage holds, too, two handles under it, and for the calls on it a full keyring */
 bool prepare(const struct kind *kind, struct lent *lent)
 {
+    chance_seed(SEED);
     memset(lent, 0, sizeof *lent);
-    memset(lent->random, 0x5A, sizeof lent->random);
+    lent->machine_length = sizeof lent->machine;
+    any_bytes(lent->random, sizeof lent->random);
     memset(lent->leaf, 0x5A, sizeof lent->leaf);
     memset(lent->found, 0x5A, sizeof lent->found);
     lent->found_kind = 0x5A;
@@ -320,10 +362,9 @@ bool prepare(const struct kind *kind, struct lent *lent)
                 step(&on_normal_stack, lent) == KEYLOCKER_DONE &&
                 keylocker_write(lent->machine, sizeof lent->machine, PROCESSOR, 0, KEYLOCKER_COPY_LOCAL_TO_PLATFORM, 1) == KEYLOCKER_DONE &&
                 keylocker_settle(lent->machine, sizeof lent->machine, KEYLOCKER_SETTLE_GOOD) == KEYLOCKER_DONE &&
-                encode(lent, ENCODE_128, lent->memory, KEYLOCKER_HANDLE_128_SIZE) &&
-                encode(lent, ENCODE_256, lent->memory + HALF, KEYLOCKER_HANDLE_256_SIZE);
+                encode(lent, ENCODE_128, lent->memory, KEYLOCKER_HANDLE_128_SIZE, lent->keys[0]) &&
+                encode(lent, ENCODE_256, lent->memory + HALF, KEYLOCKER_HANDLE_256_SIZE, lent->keys[1]);
     put_registers(lent);
-    lent->cpu[0] ^= 1; /* so that LOADIWKEY loads another key */
     lent->cpu[KEYLOCKER_CPU_RFLAGS] = kind->fails ? 0 : KEYLOCKER_RFLAGS_ZF;
     put_string(lent, kind->number);
     done = done && (!is_keyring_call(kind) || fill_keyring(lent));
@@ -359,14 +400,13 @@ static const char *ctr_not_as_meant(const struct kind *kind, const struct lent *
 const char *not_as_meant(const struct kind *kind, const struct lent *before, const struct lent *after)
 {
     bool identifies = kind->call == CPUID && !kind->answer, writes = kind->writes && kind->call != ADD && kind->call != CTR;
-    bool idle = kind->call == STEP && !after->string_length;
     if (after->answer != kind->answer)
         return "another answer than meant";
     if ((memcmp(before->machine, after->machine, sizeof after->machine) != 0) != writes)
         return writes ? "the machine is as it was" : "the machine was written";
     if ((kind->call == STEP || kind->call == CTR) && !kind->answer && ((after->cpu[KEYLOCKER_CPU_RFLAGS] & KEYLOCKER_RFLAGS_ZF) != 0) != kind->fails)
         return "another ZF than meant";
-    if ((kind->call == CPUID || idle) && memcmp(before->cpu, after->cpu, sizeof after->cpu) != 0)
+    if ((kind->call == CPUID || is_idle(kind, after)) && memcmp(before->cpu, after->cpu, sizeof after->cpu) != 0)
         return "the CPU record was written";
     if ((memcmp(before->leaf, after->leaf, sizeof after->leaf) != 0) != identifies)
         return identifies ? "CPUID's numbers are as they were" : "CPUID's numbers were written";

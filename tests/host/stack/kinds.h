@@ -7,7 +7,9 @@
 /* all that a call reads and writes, and its answer */
 struct lent {
     uint8_t machine[KEYLOCKER_MACHINE_SIZE], cpu[KEYLOCKER_CPU_SIZE];
+    size_t machine_length;
     uint8_t memory[2 * KEYLOCKER_HANDLE_256_SIZE]; /* a handle for either size of key, each at its half's start */
+    uint8_t keys[2][32];                           /* the keys of these handles; no call is lent them */
     uint8_t random[KEYLOCKER_RANDOM_SIZE], string[5];
     size_t random_length, string_length;
     uint64_t value;
@@ -38,6 +40,13 @@ extern const size_t kind_count;
 bool prepare(const struct kind *kind, struct lent *lent);
 
 void make_call(const struct kind *kind, const struct entries *entries, struct lent *lent);
+
+/* The key that the call encodes or opens, or would if nothing stopped it, and how many bytes it has: 0 where it has no key. */
+size_t key_of(const struct kind *kind, const struct lent *before, const uint8_t **key);
+bool is_loadiwkey(const struct kind *kind);
+bool is_idle(const struct kind *kind, const struct lent *lent);
+/* the IWKey of the processor that the calls are made on */
+const uint8_t *processor_iwkey(const struct lent *lent);
 
 /* NULL, or what is not as the kind says */
 const char *not_as_meant(const struct kind *kind, const struct lent *before, const struct lent *after);
