@@ -33,8 +33,25 @@ void bytes_append(struct bytes *b, const uint8_t *data, size_t len)
 
 void bytes_assign(struct bytes *b, const uint8_t *data, size_t len)
 {
+    if (len > b->room) {
+        b->data = allocate(b->data, len);
+        b->room = len;
+    }
     b->len = 0;
     bytes_append(b, data, len);
+}
+
+void bytes_print(struct bytes *b, const char *format, va_list arguments)
+{
+    va_list again;
+    va_copy(again, arguments);
+    int len = vsnprintf(NULL, 0, format, arguments);
+    if (len > 0) {
+        bytes_reserve(b, (size_t)len + 1);
+        vsnprintf((char *)b->data + b->len, (size_t)len + 1, format, again);
+        b->len += (size_t)len;
+    }
+    va_end(again);
 }
 
 void bytes_free(struct bytes *b)

@@ -2,6 +2,7 @@
 #ifndef BYTES_H
 #define BYTES_H
 
+#include <stdarg.h>
 #include <stddef.h>
 #include <stdint.h>
 
@@ -17,8 +18,13 @@ void *allocate(void *old, size_t size);
 void bytes_reserve(struct bytes *b, size_t more);
 
 void bytes_append(struct bytes *b, const uint8_t *data, size_t len);
+
+/* In place of those there are, with no more room than they need. */
 void bytes_assign(struct bytes *b, const uint8_t *data, size_t len);
 void bytes_free(struct bytes *b);
+
+/* Text behind what there is, as by vprintf, without a NUL. */
+void bytes_print(struct bytes *b, const char *format, va_list arguments) __attribute__((format(printf, 2, 0)));
 
 /* The value of a hexadecimal digit, -1 for another character. */
 int hex_digit(char c);

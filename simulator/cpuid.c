@@ -1,7 +1,6 @@
 #include "cpuid.h"
 
 #include <inttypes.h>
-#include <stdio.h>
 
 #include "print.h"
 
@@ -25,28 +24,26 @@ static const struct {
     {0x19, ECX, KEYLOCKER_CPUID_19_ECX_RANDOM, "random"},
 };
 
-static void put_register(const struct simulator *s, uint32_t leaf, int place)
+static void add_register(struct simulator *s, uint32_t leaf, int place)
 {
     uint32_t value = s->last.cpuid[place];
     const char *before = " (";
-    printf("%s 0x%" PRIx32, cpuid_names[place], value);
+    add_answer(s, "%s 0x%" PRIx32, cpuid_names[place], value);
     for (size_t i = 0; i < sizeof bits / sizeof *bits; i++) {
         if (bits[i].leaf != leaf || bits[i].place != place || !(value & bits[i].bit))
             continue;
-        printf("%s%s", before, bits[i].name);
+        add_answer(s, "%s%s", before, bits[i].name);
         before = ", ";
     }
-    fputs(before[0] == ',' ? ")" : "", stdout);
+    add_answer(s, "%s", before[0] == ',' ? ")" : "");
 }
 
 void print_cpuid(struct simulator *s, uint32_t leaf)
 {
-    if (s->quiet)
-        return;
-    fputs("        0 done: ", stdout);
+    add_answer(s, "0 done: ");
     for (int place = 0; place < CPUID_REGISTERS; place++) {
-        fputs(place == 0 ? "" : ", ", stdout);
-        put_register(s, leaf, place);
+        add_answer(s, "%s", place == 0 ? "" : ", ");
+        add_register(s, leaf, place);
     }
-    putchar('\n');
+    end_answer(s);
 }

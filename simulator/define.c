@@ -9,6 +9,7 @@ void run_bytes(struct simulator *s)
     take_keyword(&s->line, "=");
     take_bytes(s, "bytes", &s->left);
     take_end(&s->line);
+    need_room(s, name, s->left.len);
     print_statement(s);
     give_value(s, name, s->left.data, s->left.len);
 }
@@ -22,6 +23,7 @@ void run_iwkey(struct simulator *s)
     take_keyword(&s->line, "encryption");
     take_bytes_of(s, "an encryption key", 32, &s->right);
     take_end(&s->line);
+    need_room(s, name, KEYLOCKER_IWKEY_SOURCE);
     print_statement(s);
     bytes_append(&s->left, s->right.data, s->right.len);
     give_value(s, name, s->left.data, s->left.len);

@@ -7,14 +7,16 @@
 #include "cpuid.h"
 #include "print.h"
 #include "record.h"
+#include "refusal.h"
 #include "value.h"
 
-/* Counts and prints the expectation; where it is not met, the caller says what was found. */
+/* Counts the expectation, and prints it where it is met; where it is not, the caller prints it with what was found. */
 static bool unmet(struct simulator *s, bool met)
 {
     s->counts.expects++;
-    print_expectation(s, met);
-    if (!met && s->counts.unmet++ == 0)
+    if (met)
+        print_met(s);
+    else if (s->counts.unmet++ == 0)
         s->counts.first_unmet = s->line.number;
     return !met;
 }
@@ -25,47 +27,50 @@ static void need_call(const struct simulator *s)
         bad_line(&s->line, "expected a call before what is expected of it");
 }
 
-static void say_answer(const struct simulator *s)
+static void print_answered(struct simulator *s)
 {
     if (s->last.answer == KEYLOCKER_DONE)
-        puts("the last call was done");
+        print_unmet(s, "the last call was done");
     else
-        printf("the last call was refused, %u\n", (unsigned)s->last.answer);
+        print_unmet(s, "the last call was refused, %u (%s)", (unsigned)s->last.answer, answer_name(s->last.answer));
 }
 
+/* Every expectation of a call's answer speaks of a refusal, but that it was done says nothing of ZF. */
 static void expect_answer(struct simulator *s, uint32_t answer)
 {
     take_end(&s->line);
     need_call(s);
+    s->last.expected |= s->last.answer != KEYLOCKER_DONE;
     if (unmet(s, s->last.answer == answer))
-        say_answer(s);
+        print_answered(s);
 }
 
-/* Whether the last call was done and gave something else than was expected of it, which is then still to be said; a refusal is said here. */
+/* Whether the last call was done and gave something else than was expected of it, which is then still to be printed; a refusal is printed here. */
 static bool gave_other(struct simulator *s, bool same)
 {
     bool done = s->last.answer == KEYLOCKER_DONE;
+    s->last.expected = true;
     if (!unmet(s, done && same))
         return false;
     if (!done)
-        say_answer(s);
+        print_answered(s);
     return done;
 }
 
-static bool wrote_zf(const struct simulator *s)
+static bool has_zf(const struct simulator *s)
 {
-    return s->last.call == CALL_LOAD || s->last.call == CALL_ENCODE || s->last.call == CALL_USE || s->last.call == CALL_UNKNOWN_STEP ||
-           s->last.call == CALL_CTR;
+    return s->last.call == CALL_LOAD || s->last.call == CALL_ENCODE || s->last.call == CALL_USE || s->last.call == CALL_IDLE ||
+           s->last.call == CALL_UNKNOWN_STEP || s->last.call == CALL_CTR;
 }
 
 static void expect_zf(struct simulator *s)
 {
     uint64_t zf = take_number(&s->line, "ZF", 1);
     take_end(&s->line);
-    if (!wrote_zf(s))
+    if (!has_zf(s))
         bad_line(&s->line, "expected an instruction or a ctr as the last call before 'expect zf'");
     if (gave_other(s, s->last.zf == zf))
-        printf("ZF is %u\n", s->last.zf);
+        print_unmet(s, "ZF is %u", s->last.zf);
 }
 
 static void expect_value(struct simulator *s)
@@ -75,7 +80,7 @@ static void expect_value(struct simulator *s)
     if (s->last.call != CALL_READ)
         bad_line(&s->line, "expected a read as the last call before 'expect value'");
     if (gave_other(s, s->last.value == value))
-        printf("the value is %" PRIu64 "\n", s->last.value);
+        print_unmet(s, "the value is %" PRIu64, s->last.value);
 }
 
 static void expect_cpuid(struct simulator *s, int place)
@@ -85,7 +90,7 @@ static void expect_cpuid(struct simulator *s, int place)
     if (s->last.call != CALL_CPUID)
         bad_line(&s->line, "expected a cpuid as the last call before 'expect %s'", cpuid_names[place]);
     if (gave_other(s, s->last.cpuid[place] == value))
-        printf("%s is 0x%" PRIx32 "\n", cpuid_names[place], s->last.cpuid[place]);
+        print_unmet(s, "%s is 0x%" PRIx32, cpuid_names[place], s->last.cpuid[place]);
 }
 
 static void expect_kind(struct simulator *s)
@@ -95,7 +100,7 @@ static void expect_kind(struct simulator *s)
     if (s->last.call != CALL_KEYRING_LOOKUP)
         bad_line(&s->line, "expected a keyring lookup as the last call before 'expect kind'");
     if (gave_other(s, s->last.kind == kind))
-        printf("the kind is %u\n", s->last.kind);
+        print_unmet(s, "the kind is %u", s->last.kind);
 }
 
 static void expect_register(struct simulator *s, const struct field *field)
@@ -103,9 +108,35 @@ static void expect_register(struct simulator *s, const struct field *field)
     take_keyword(&s->line, "=");
     uint64_t value = take_number(&s->line, "the register's value", UINT64_MAX);
     take_end(&s->line);
-    uint64_t found = get_field(&s->cpus[s->processor], field);
+    uint64_t found = get_field(this_cpu(s), field);
     if (unmet(s, found == value))
-        printf("%s is 0x%" PRIx64 "\n", field->name, found);
+        print_unmet(s, "%s is 0x%" PRIx64, field->name, found);
+}
+
+/* ---- bytes */
+
+enum { EXCERPT = 16, EXCERPT_TEXT = 2 * EXCERPT + 16 };
+
+/* Some bytes from there on, or that there are none. */
+static void excerpt(const struct bytes *b, size_t at, char text[EXCERPT_TEXT])
+{
+    if (at >= b->len) {
+        strcpy(text, "nothing");
+        return;
+    }
+    for (size_t i = at; i < b->len && i < at + EXCERPT; i++)
+        text += sprintf(text, "%02x", b->data[i]);
+    if (b->len > at + EXCERPT)
+        strcpy(text, "..");
+}
+
+/* The first place where they differ, or where the shorter ends. */
+static size_t difference(const struct bytes *a, const struct bytes *b)
+{
+    size_t i = 0;
+    while (i < a->len && i < b->len && a->data[i] == b->data[i])
+        i++;
+    return i;
 }
 
 static void expect_bytes(struct simulator *s)
@@ -114,13 +145,20 @@ static void expect_bytes(struct simulator *s)
     take_keyword(&s->line, "=");
     take_bytes(s, "bytes", &s->right);
     take_end(&s->line);
-    bool same = s->left.len == s->right.len && memcmp(s->left.data, s->right.data, s->left.len) == 0;
-    if (!unmet(s, same))
+    const struct bytes *found = &s->left, *wanted = &s->right;
+    if (!unmet(s, found->len == wanted->len && memcmp(found->data, wanted->data, found->len) == 0))
         return;
-    fputs("found ", stdout);
-    put_hex_cut(s->left.data, s->left.len);
-    putchar('\n');
+    char left[EXCERPT_TEXT], right[EXCERPT_TEXT];
+    size_t at = difference(found, wanted);
+    excerpt(found, at, left);
+    excerpt(wanted, at, right);
+    if (found->len == wanted->len)
+        print_unmet(s, "byte %zu differs: found %s, expected %s", at, left, right);
+    else
+        print_unmet(s, "%zu bytes, expected %zu; byte %zu differs: found %s, expected %s", found->len, wanted->len, at, left, right);
 }
+
+/* ---- dispatch */
 
 /* The register of CPUID that the next word names, or -1. */
 static int accept_cpuid(struct simulator *s)
@@ -139,10 +177,7 @@ void run_expect(struct simulator *s)
     } else if (accept(&s->line, "done")) {
         expect_answer(s, KEYLOCKER_DONE);
     } else if (accept(&s->line, "refused")) {
-        uint64_t number = take_number(&s->line, "a refusal", KEYLOCKER_BAD_SIZE);
-        if (number == KEYLOCKER_DONE)
-            bad_line(&s->line, "expected a refusal from 1 to %d; 0 is 'expect done'", KEYLOCKER_BAD_SIZE);
-        expect_answer(s, (uint32_t)number);
+        expect_answer(s, take_refusal(&s->line));
     } else if (accept(&s->line, "zf")) {
         expect_zf(s);
     } else if (accept(&s->line, "value")) {

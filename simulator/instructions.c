@@ -2,72 +2,20 @@
 
 #include <string.h>
 
+#include "execute.h"
 #include "print.h"
-#include "processor.h"
+#include "reason.h"
 #include "record.h"
 #include "value.h"
 
 /* Strings have fixed operands: LOADIWKEY XMM2, XMM1; ENCODEKEY EAX, ECX; a use has XMM0 (wide: XMM0 to XMM7) and the handle at a 32-bit address
  * without a register, so that no general register is needed (ModRM with r/m 4, then SIB 25). */
-enum { SIB_ABSOLUTE = 0x25 };
-
-static const struct mnemonic mnemonics[] = {
-    {"aesenc128kl", CALL_USE, 0xDC, 0x04, 16, false, true},
-    {"aesdec128kl", CALL_USE, 0xDD, 0x04, 16, false, false},
-    {"aesenc256kl", CALL_USE, 0xDE, 0x04, 32, false, true},
-    {"aesdec256kl", CALL_USE, 0xDF, 0x04, 32, false, false},
-    {"aesencwide128kl", CALL_USE, 0xD8, 0x04, 16, true, true},
-    {"aesdecwide128kl", CALL_USE, 0xD8, 0x0C, 16, true, false},
-    {"aesencwide256kl", CALL_USE, 0xD8, 0x14, 32, true, true},
-    {"aesdecwide256kl", CALL_USE, 0xD8, 0x1C, 32, true, false},
-    {"encodekey128", CALL_ENCODE, 0xFA, 0xC1, 16, false, false},
-    {"encodekey256", CALL_ENCODE, 0xFB, 0xC1, 32, false, false},
-    {"loadiwkey", CALL_LOAD, 0xDC, 0xD1, 0, false, false},
-};
-
-const struct mnemonic *mnemonic_named(struct word word)
-{
-    for (size_t i = 0; i < sizeof mnemonics / sizeof *mnemonics; i++)
-        if (word_is(word, mnemonics[i].name))
-            return &mnemonics[i];
-    return NULL;
-}
-
-enum call call_of(const uint8_t *string, size_t len)
-{
-    size_t i = 0;
-    i += i < len && string[i] == 0xF0;
-    i += i < len && string[i] == 0x67;
-    i += i < len && string[i] == 0xF3;
-    i += i < len && string[i] >> 4 == 4;
-    if (len < i + 4 || string[i] != 0x0F || string[i + 1] != 0x38)
-        return CALL_UNKNOWN_STEP;
-    bool registers = string[i + 3] >> 6 == 3;
-    switch (string[i + 2]) {
-    case 0xDC:
-        return registers ? CALL_LOAD : CALL_USE;
-    case 0xD8:
-    case 0xDD:
-    case 0xDE:
-    case 0xDF:
-        return CALL_USE;
-    case 0xFA:
-    case 0xFB:
-        return CALL_ENCODE;
-    default:
-        return CALL_UNKNOWN_STEP;
-    }
-}
-
-static struct cpu *operand_cpu(struct simulator *s)
-{
-    return &s->cpus[s->processor];
-}
+enum { MODRM_LOAD = 0xD1, MODRM_ENCODE = 0xC1, MODRM_SIB = 0x04, SIB_ABSOLUTE = 0x25 };
 
 static bool execute_registers(struct simulator *s, const struct mnemonic *m, const struct bytes *random)
 {
-    const uint8_t string[] = {0xF3, 0x0F, 0x38, m->opcode, m->modrm};
-    return execute(s, m->call, string, sizeof string, random);
+    const uint8_t string[] = {0xF3, 0x0F, 0x38, m->opcode, m->call == CALL_LOAD ? MODRM_LOAD : MODRM_ENCODE};
+    return execute(s, string, sizeof string, random);
 }
 
 /* ---- LOADIWKEY */
@@ -91,9 +39,9 @@ static void run_load(struct simulator *s, const struct mnemonic *m)
     no_backup |= accept(&s->line, "no-backup"); // in either order
     take_end(&s->line);
     print_statement(s);
-    struct cpu *cpu = operand_cpu(s);
+    struct cpu *cpu = this_cpu(s);
     memcpy(xmm_of(cpu, 0), s->left.data, 3 * 16); // integrity key; SRC2, the low half; SRC1, the high half
-    set_register(cpu, KEYLOCKER_RAX, (no_backup ? KEYLOCKER_LOADIWKEY_NO_BACKUP : 0) | (random ? KEYLOCKER_LOADIWKEY_RANDOM : 0));
+    keylocker_set_register(cpu->record, KEYLOCKER_RAX, (no_backup ? KEYLOCKER_LOADIWKEY_NO_BACKUP : 0) | (random ? KEYLOCKER_LOADIWKEY_RANDOM : 0));
     if (!execute_registers(s, m, &s->right))
         return;
     if (s->last.zf)
@@ -127,15 +75,15 @@ static void run_encode(struct simulator *s, const struct mnemonic *m)
     struct name *result = take_result(s);
     take_end(&s->line);
     print_statement(s);
-    struct cpu *cpu = operand_cpu(s);
+    struct cpu *cpu = this_cpu(s);
     memcpy(xmm_of(cpu, 0), s->left.data, m->key_size);
-    set_register(cpu, KEYLOCKER_RCX, restrictions);
+    keylocker_set_register(cpu->record, KEYLOCKER_RCX, restrictions);
     if (!execute_registers(s, m, NULL)) {
         take_value_away(s, result);
         return;
     }
     size_t len = 32 + m->key_size;
-    unsigned eax = (unsigned)get_register(cpu, KEYLOCKER_RAX);
+    unsigned eax = (unsigned)keylocker_get_register(cpu->record, KEYLOCKER_RAX);
     print_answer(s, "0 done: the IWKey that it is encoded under has key source %u, NoBackup %u", eax >> 1, eax & 1);
     print_result(s, "handle", result, xmm_of(cpu, 0), len);
     give_value(s, result, xmm_of(cpu, 0), len);
@@ -164,11 +112,21 @@ static void put_handle(struct simulator *s)
 static void print_used(struct simulator *s, const struct mnemonic *m, const struct name *result, size_t len)
 {
     if (s->last.zf) {
-        print_answer(s, "0 done, ZF 1: not a handle of this IWKey, or not for this use; the block%s unchanged", m->wide ? "s are" : " is");
+        add_answer(s, "0 done, ZF 1: ");
+        add_use_reason(s);
+        print_answer(s, "; the block%s unchanged", m->wide ? "s are" : " is");
         return;
     }
     print_answer(s, "0 done, ZF 0: the handle opens, %s %scrypted", m->wide ? "8 blocks are" : "1 block is", m->encrypts ? "en" : "de");
-    print_result(s, "result", result, xmm_of(operand_cpu(s), 0), len);
+    print_result(s, "result", result, xmm_of(this_cpu(s), 0), len);
+}
+
+static bool execute_use(struct simulator *s, const struct mnemonic *m, uint32_t address)
+{
+    uint8_t modrm = (uint8_t)(m->wide ? m->reg << 3 | MODRM_SIB : MODRM_SIB);
+    const uint8_t string[] = {0xF3,          0x0F, 0x38, m->opcode, modrm, SIB_ABSOLUTE, (uint8_t)address, (uint8_t)(address >> 8), (uint8_t)(address >> 16),
+                              (uint8_t)(address >> 24)};
+    return execute(s, string, sizeof string, NULL);
 }
 
 static void run_use(struct simulator *s, const struct mnemonic *m)
@@ -182,14 +140,15 @@ static void run_use(struct simulator *s, const struct mnemonic *m)
     print_statement(s);
     if (!in_memory)
         put_handle(s);
-    memcpy(xmm_of(operand_cpu(s), 0), s->left.data, len);
-    const uint8_t string[] = {0xF3, 0x0F, 0x38, m->opcode, m->modrm, SIB_ABSOLUTE, (uint8_t)address, (uint8_t)(address >> 8),
-                              (uint8_t)(address >> 16), (uint8_t)(address >> 24)};
-    bool done = execute(s, m->call, string, sizeof string, NULL);
+    memcpy(xmm_of(this_cpu(s), 0), s->left.data, len);
+    bool done = execute_use(s, m, address);
     if (done)
         print_used(s, m, result, len);
+    else if (s->last.answer == KEYLOCKER_PF && !in_memory)
+        print_answer(s, "the handle was put at 0x%x, into the last %d bytes of guest memory, and only %zu bytes of that are lent", (unsigned)address,
+                     KEYLOCKER_HANDLE_256_SIZE, s->memory_len);
     if (done && !s->last.zf)
-        give_value(s, result, xmm_of(operand_cpu(s), 0), len);
+        give_value(s, result, xmm_of(this_cpu(s), 0), len);
     else
         take_value_away(s, result);
 }

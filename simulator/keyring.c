@@ -166,7 +166,7 @@ static void show_record(const struct simulator *s, unsigned chain, size_t index)
     puts(" ..");
 }
 
-void show_keyring(const struct simulator *s)
+void show_keyring(struct simulator *s)
 {
     size_t used = 0;
     if (is_refused(s)) {

@@ -8,6 +8,6 @@
 void run_keyring(struct simulator *s);
 
 /* The records in use, chain by chain, or that it is refused. */
-void show_keyring(const struct simulator *s);
+void show_keyring(struct simulator *s);
 
 #endif

@@ -24,6 +24,8 @@ void bad_line(const struct line *line, const char *format, ...)
     vfprintf(stderr, format, arguments);
     va_end(arguments);
     fputc('\n', stderr);
+    if (line->behind != NULL)
+        longjmp(*line->behind, 1);
     exit(2);
 }
 
@@ -157,6 +159,18 @@ uint64_t take_number(struct line *line, const char *expected, uint64_t most)
         bad_line(line, "expected %s, a number from 0 to %" PRIu64 " (decimal, or hexadecimal with 0x), not '%.*s'", expected, most,
                  shown(word.len), word.text);
     return number;
+}
+
+uint32_t take_choice(struct line *line, const struct choice *choices, size_t count, uint32_t most, const char *expected)
+{
+    struct word word = take_word(line, expected);
+    uint64_t number;
+    for (size_t i = 0; i < count; i++)
+        if (word_is(word, choices[i].word))
+            return choices[i].number;
+    if (!number_in(word.text, word.len, &number) || number > most)
+        bad_line(line, "expected %s, not '%.*s'", expected, shown(word.len), word.text);
+    return (uint32_t)number;
 }
 
 void take_end(const struct line *line)

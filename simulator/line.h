@@ -2,6 +2,7 @@
 #ifndef LINE_H
 #define LINE_H
 
+#include <setjmp.h>
 #include <stdbool.h>
 #include <stddef.h>
 #include <stdint.h>
@@ -9,6 +10,12 @@
 struct word {
     const char *text; /* no NUL behind it */
     size_t len;
+};
+
+/* A word that stands for a number. */
+struct choice {
+    const char *word;
+    uint32_t number;
 };
 
 struct line {
@@ -19,9 +26,11 @@ struct line {
     struct word *words;
     size_t count, room;
     size_t next; /* the word to be taken next */
+    jmp_buf *behind; /* where a bad line goes on, or none */
 };
 
-/* Says on standard error what is wrong with the line and what was expected, and exits with status 2. */
+/* Says on standard error what is wrong with the line and what was expected, and exits with status 2 where the run does not go on behind it. Nothing of a line
+ * is done before all of it is known to be good. */
 _Noreturn void bad_line(const struct line *line, const char *format, ...) __attribute__((format(printf, 2, 3)));
 
 void line_split(struct line *line, const char *text, size_t len);
@@ -41,6 +50,10 @@ struct word take_word(struct line *line, const char *expected);
 void take_keyword(struct line *line, const char *keyword);
 uint64_t take_number(struct line *line, const char *expected, uint64_t most);
 void take_end(const struct line *line);
+
+/* One of the choices, or a number up to most. What is expected names both. */
+uint32_t take_choice(struct line *line, const struct choice *choices, size_t count, uint32_t most, const char *expected);
+#define TAKE_CHOICE(line, choices, most, expected) take_choice(line, choices, sizeof choices / sizeof *choices, most, expected)
 
 /* For printf's %.*s: words in messages are cut. */
 int shown(size_t len);

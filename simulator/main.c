@@ -1,11 +1,15 @@
 /* Replays a trace of calls on the emulated machine; simulator/TRACES.md has the language. */
-#define _POSIX_C_SOURCE 200809L // fileno, fstat
+#define _POSIX_C_SOURCE 200809L // open, fstat
 
 #include <errno.h>
+#include <fcntl.h>
+#include <setjmp.h>
 #include <stdio.h>
 #include <string.h>
 #include <sys/stat.h>
+#include <unistd.h>
 
+#include "interrupt.h"
 #include "print.h"
 #include "progress.h"
 #include "reader.h"
@@ -13,13 +17,15 @@
 #include "simulator.h"
 
 static const char help[] =
-    "usage: keylocker-simulator [--quiet] [TRACE]\n"
+    "usage: keylocker-simulator [--quiet] [--strict] [--json] [TRACE]\n"
     "       keylocker-simulator --print-scenario\n"
     "\n"
     "Replays the calls in the file TRACE (- is standard input) on an emulated Key Locker machine, and prints each with its answer.\n"
-    "Without TRACE it replays a built-in scenario, which --print-scenario prints as a trace.\n"
+    "Without TRACE it replays a built-in scenario, which --print-scenario prints as a trace. Lines are answered one by one, as they come.\n"
     "\n"
     "  -q, --quiet        print only what say and show print, expectations that are not met, and the summary\n"
+    "  -s, --strict       exit with status 1 also where a call was refused, or left ZF 1, and no expectation behind it names that\n"
+    "  -j, --json         print one JSON object a line, for each call, expectation, say and show, and for the summary\n"
     "      --print-scenario\n"
     "      --version\n"
     "  -h, --help\n"
@@ -29,85 +35,132 @@ static const char help[] =
     "cpu N cpuid LEAF SUBLEAF, cpu N read REGISTER, cpu N write REGISTER VALUE,\n"
     "taken, settle good|bad, sleep old|new|junk, reset,\n"
     "keyring records N, keyring add LABEL HANDLE, keyring lookup LABEL -> NAME,\n"
-    "expect done | refused NUMBER | zf BIT | value NUMBER | kind NUMBER | eax NUMBER | BYTES = BYTES.\n"
+    "expect done | refused NUMBER | refused NAME | zf BIT | value NUMBER | kind NUMBER | eax NUMBER | BYTES = BYTES.\n"
     "\n"
-    "Exit status: 0 if all went well, 1 if an expectation of the trace was not met, 2 for a bad trace or bad usage.\n";
+    "Exit status: 0 if all went well, 1 if an expectation of the trace was not met, 2 for a bad trace, bad usage or output that is lost,\n"
+    "130 behind Ctrl-C.\n";
 
-struct options {
-    const char *file; /* none for the scenario */
-    bool quiet;
-};
+enum { FINE = 0, UNMET = 1, BAD = 2, INTERRUPTED = 130 };
 
-enum { FINE = 0, UNMET = 1, BAD = 2 };
+/* ---- output */
 
-static uint64_t size_of(FILE *file)
+/* Whether all that was printed went out; otherwise it is said. */
+static bool flushed(void)
 {
-    struct stat st;
-    return fstat(fileno(file), &st) == 0 && S_ISREG(st.st_mode) ? (uint64_t)st.st_size : 0;
+    errno = 0;
+    if (fflush(stdout) == 0 && !ferror(stdout))
+        return true;
+    fprintf(stderr, "keylocker-simulator: standard output: %s\n", errno != 0 ? strerror(errno) : "what was printed did not all go out");
+    return false;
 }
 
-/* All lines, until one is bad. */
+static int print(const char *text, size_t len)
+{
+    fwrite(text, 1, len, stdout);
+    return flushed() ? FINE : BAD;
+}
+
+/* ---- a trace */
+
+static uint64_t size_of(int fd)
+{
+    struct stat st;
+    return fstat(fd, &st) == 0 && S_ISREG(st.st_mode) ? (uint64_t)st.st_size : 0;
+}
+
+/* One that is bad ends the run, but for a person at a terminal, who can write it again. */
+static void run_or_go_on(struct simulator *s, const char *text, size_t len, bool at_terminal)
+{
+    jmp_buf behind;
+    if (at_terminal && setjmp(behind) != 0) {
+        s->counts.bad++;
+        return;
+    }
+    s->line.behind = at_terminal ? &behind : NULL;
+    run_line(s, text, len);
+}
+
+/* All lines, until one is bad or Ctrl-C comes. */
 static void run_lines(struct simulator *s, struct reader *reader)
 {
     const char *text;
     size_t len;
-    enum reading reading;
-    while ((reading = reader_next(reader, &text, &len)) == READING_LINE) {
-        run_line(s, text, len);
+    bool at_terminal = reader->fd >= 0 && isatty(reader->fd);
+    enum reading reading = READING_INTERRUPTED;
+    while (!interrupted() && (reading = reader_next(reader, &text, &len)) == READING_LINE) {
+        run_or_go_on(s, text, len, at_terminal);
         progress_line(s->line.number, reader->consumed);
     }
-    s->line.number += reading != READING_END;
+    s->line.behind = NULL;
+    s->line.number += reading == READING_TOO_LONG || reading == READING_ERROR;
     if (reading == READING_TOO_LONG)
         bad_line(&s->line, "expected a line of at most %zu bytes", LINE_LIMIT);
     if (reading == READING_ERROR)
         bad_line(&s->line, "cannot be read: %s", strerror(errno));
 }
 
-static int finish(const struct simulator *s)
+static bool went_well(const struct simulator *s)
 {
-    progress_erase();
-    print_summary(s);
-    if (fflush(stdout) != 0 || ferror(stdout)) {
-        fprintf(stderr, "keylocker-simulator: standard output: %s\n", strerror(errno));
-        return BAD;
-    }
-    if (s->counts.unmet == 0)
-        return FINE;
-    fprintf(stderr, "%s:%zu: not met, the first of %zu expectations\n", s->line.file, s->counts.first_unmet, s->counts.unmet);
-    return UNMET;
+    return s->counts.unmet == 0 && !(s->options.strict && s->counts.unexpected > 0);
 }
 
-static int replay(const struct options *options)
+/* What made the status, on standard error. */
+static void say_first(const struct simulator *s)
+{
+    const struct counts *c = &s->counts;
+    if (c->unmet > 0)
+        fprintf(stderr, "%s:%zu: not met, the first of %zu expectations\n", s->line.file, c->first_unmet, c->unmet);
+    if (s->options.strict && c->unexpected > 0)
+        fprintf(stderr, "%s:%zu: refused or ZF 1, and no expectation names it, the first of %zu calls\n", s->line.file, c->first_unexpected, c->unexpected);
+}
+
+static int finish(struct simulator *s)
+{
+    count_unexpected(s);
+    int status = interrupted() ? INTERRUPTED : s->counts.bad > 0 ? BAD : went_well(s) ? FINE : UNMET;
+    progress_erase();
+    print_summary(s, status, interrupted());
+    if (!flushed())
+        return BAD;
+    say_first(s);
+    return status;
+}
+
+/* A descriptor, or -1 where it cannot be opened, which is said. */
+static int open_trace(const char *file)
+{
+    if (strcmp(file, "-") == 0)
+        return STDIN_FILENO;
+    int fd = open(file, O_RDONLY | O_CLOEXEC);
+    if (fd < 0)
+        fprintf(stderr, "keylocker-simulator: %s: %s\n", file, strerror(errno));
+    return fd;
+}
+
+static int replay(const char *file, const struct options *options)
 {
     struct simulator s;
     struct reader reader;
-    FILE *file = NULL;
-    if (options->file == NULL) {
+    int fd = file == NULL ? -1 : open_trace(file);
+    if (file != NULL && fd < 0)
+        return BAD;
+    if (file == NULL)
         reader_open_text(&reader, scenario, scenario_len);
-    } else {
-        file = strcmp(options->file, "-") == 0 ? stdin : fopen(options->file, "r");
-        if (file == NULL) {
-            fprintf(stderr, "keylocker-simulator: %s: %s\n", options->file, strerror(errno));
-            return BAD;
-        }
-        reader_open_file(&reader, file);
-    }
-    simulator_init(&s, options->file == NULL ? "built-in scenario" : file == stdin ? "standard input" : options->file, options->quiet);
-    progress_start(file == NULL ? 0 : size_of(file), !options->quiet);
+    else
+        reader_open_file(&reader, fd);
+    simulator_init(&s, file == NULL ? "built-in scenario" : strcmp(file, "-") == 0 ? "standard input" : file, options);
+    progress_start(fd < 0 ? 0 : size_of(fd), !options->quiet);
+    interrupt_start();
     run_lines(&s, &reader);
     int status = finish(&s);
     simulator_free(&s);
     reader_close(&reader);
-    if (file != NULL && file != stdin)
-        fclose(file);
+    if (fd > STDIN_FILENO)
+        close(fd);
     return status;
 }
 
-static int print(const char *text, size_t len)
-{
-    fwrite(text, 1, len, stdout);
-    return fflush(stdout) == 0 ? FINE : BAD;
-}
+/* ---- arguments */
 
 static int bad_usage(const char *what, const char *argument)
 {
@@ -115,29 +168,47 @@ static int bad_usage(const char *what, const char *argument)
     return BAD;
 }
 
+static bool is_option(const char *argument, const char *letter, const char *word)
+{
+    return strcmp(argument, letter) == 0 || strcmp(argument, word) == 0;
+}
+
+static bool take_option(const char *argument, struct options *options)
+{
+    if (is_option(argument, "-q", "--quiet"))
+        options->quiet = true;
+    else if (is_option(argument, "-s", "--strict"))
+        options->strict = true;
+    else if (is_option(argument, "-j", "--json"))
+        options->json = true;
+    else
+        return false;
+    return true;
+}
+
 int main(int argc, char **argv)
 {
+    static const char version[] = "keylocker-simulator " KEYLOCKER_VERSION "\n";
     struct options options = {0};
+    const char *file = NULL;     /* none for the scenario */
     bool names_only = false; /* after -- */
     for (int i = 1; i < argc; i++) {
         const char *a = argv[i];
         if (names_only || a[0] != '-' || strcmp(a, "-") == 0) {
-            if (options.file != NULL)
+            if (file != NULL)
                 return bad_usage("one trace at a time", a);
-            options.file = a;
+            file = a;
         } else if (strcmp(a, "--") == 0) {
             names_only = true;
-        } else if (strcmp(a, "-q") == 0 || strcmp(a, "--quiet") == 0) {
-            options.quiet = true;
-        } else if (strcmp(a, "-h") == 0 || strcmp(a, "--help") == 0) {
+        } else if (is_option(a, "-h", "--help")) {
             return print(help, sizeof help - 1);
         } else if (strcmp(a, "--version") == 0) {
-            return print("keylocker-simulator " KEYLOCKER_VERSION "\n", sizeof "keylocker-simulator " KEYLOCKER_VERSION "\n" - 1);
+            return print(version, sizeof version - 1);
         } else if (strcmp(a, "--print-scenario") == 0) {
             return print(scenario, scenario_len);
-        } else {
+        } else if (!take_option(a, &options)) {
             return bad_usage("unknown option", a);
         }
     }
-    return replay(&options);
+    return replay(file, &options);
 }

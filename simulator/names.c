@@ -63,7 +63,25 @@ struct name *names_get(struct names *names, const char *text, size_t len)
     name->text[len] = '\0';
     names->all[names->count] = name;
     put_slot(names, names->count++);
+    names->held += sizeof *name + len;
     return name;
+}
+
+static size_t growth(const struct name *name, size_t len)
+{
+    size_t room = name == NULL ? 0 : name->value.room;
+    return len > room ? len - room : 0;
+}
+
+bool names_have_room(const struct names *names, const struct name *name, size_t len)
+{
+    return names->held + growth(name, len) <= NAMES_LIMIT;
+}
+
+void names_assign(struct names *names, struct name *name, const uint8_t *data, size_t len)
+{
+    names->held += growth(name, len);
+    bytes_assign(&name->value, data, len);
 }
 
 void names_free(struct names *names)

@@ -18,11 +18,15 @@ struct name {
     size_t line; /* where it was last given */
 };
 
+/* What the names of a trace may hold, so that a few lines cannot take gigabytes. */
+#define NAMES_LIMIT ((size_t)256 * 1024 * 1024)
+
 struct names {
     struct name **all; /* in the order in which the trace first gave them */
     size_t count, room;
     size_t *slots; /* a hash table of places in all, plus 1; 0 is free */
     size_t slot_count;
+    size_t held; /* bytes of texts and values, with the rooms that these keep */
 };
 
 /* None where there is no such name. */
@@ -30,6 +34,11 @@ struct name *names_find(const struct names *names, const char *text, size_t len)
 
 /* The name, made without a value where there was none. It stays where it is. */
 struct name *names_get(struct names *names, const char *text, size_t len);
+
+/* Whether the name, old or still to be made (none), can take so many bytes within NAMES_LIMIT. */
+bool names_have_room(const struct names *names, const struct name *name, size_t len);
+
+void names_assign(struct names *names, struct name *name, const uint8_t *data, size_t len);
 
 void names_free(struct names *names);
 

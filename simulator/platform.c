@@ -1,6 +1,5 @@
 #include "platform.h"
 
-#include <stdio.h>
 #include <string.h>
 
 #include "print.h"
@@ -13,26 +12,14 @@ uint8_t machine_byte(const struct simulator *s, size_t at)
 
 /* ---- power-on and reset */
 
-static const struct {
-    const char *name;
-    uint8_t bit;
-} features[] = {
-    {"kl", KEYLOCKER_FEATURE_KL},         {"firmware", KEYLOCKER_FEATURE_FIRMWARE},   {"wide", KEYLOCKER_FEATURE_WIDE},
-    {"backup", KEYLOCKER_FEATURE_BACKUP}, {"no-backup", KEYLOCKER_FEATURE_NO_BACKUP}, {"random", KEYLOCKER_FEATURE_RANDOM},
-    {"all", KEYLOCKER_FEATURE_ALL},
-};
-
 static uint8_t take_feature(struct simulator *s)
 {
-    static const char expected[] = "kl, firmware, wide, backup, no-backup, random, all, or a number from 0 to 255";
-    struct word word = take_word(&s->line, expected);
-    uint64_t number;
-    for (size_t i = 0; i < sizeof features / sizeof *features; i++)
-        if (word_is(word, features[i].name))
-            return features[i].bit;
-    if (!number_in(word.text, word.len, &number) || number > UINT8_MAX)
-        bad_line(&s->line, "expected %s, not '%.*s'", expected, shown(word.len), word.text);
-    return (uint8_t)number;
+    static const struct choice features[] = {
+        {"kl", KEYLOCKER_FEATURE_KL},         {"firmware", KEYLOCKER_FEATURE_FIRMWARE},   {"wide", KEYLOCKER_FEATURE_WIDE},
+        {"backup", KEYLOCKER_FEATURE_BACKUP}, {"no-backup", KEYLOCKER_FEATURE_NO_BACKUP}, {"random", KEYLOCKER_FEATURE_RANDOM},
+        {"all", KEYLOCKER_FEATURE_ALL},
+    };
+    return (uint8_t)TAKE_CHOICE(&s->line, features, UINT8_MAX, "kl, firmware, wide, backup, no-backup, random, all, or a number from 0 to 255");
 }
 
 static uint8_t take_features(struct simulator *s)
@@ -87,23 +74,10 @@ void run_taken(struct simulator *s)
         print_answer(s, "0 done: the platform has taken the backup, its storage is still at work");
 }
 
-/* A code by name or, so that a trace can see others refused, by number. */
-static uint8_t take_code(struct simulator *s, const char *const *names, uint8_t count, const char *expected)
-{
-    struct word word = take_word(&s->line, expected);
-    uint64_t number;
-    for (uint8_t i = 0; i < count; i++)
-        if (word_is(word, names[i]))
-            return i;
-    if (!number_in(word.text, word.len, &number) || number > UINT8_MAX)
-        bad_line(&s->line, "expected %s, not '%.*s'", expected, shown(word.len), word.text);
-    return (uint8_t)number;
-}
-
 void run_settle(struct simulator *s)
 {
-    static const char *const names[] = {[KEYLOCKER_SETTLE_GOOD] = "good", [KEYLOCKER_SETTLE_BAD] = "bad"};
-    uint8_t code = take_code(s, names, 2, "good, bad, or a code from 0 to 255");
+    static const struct choice codes[] = {{"good", KEYLOCKER_SETTLE_GOOD}, {"bad", KEYLOCKER_SETTLE_BAD}};
+    uint8_t code = (uint8_t)TAKE_CHOICE(&s->line, codes, UINT8_MAX, "good, bad, or a code from 0 to 255");
     take_end(&s->line);
     print_statement(s);
     bool pending = machine_byte(s, KEYLOCKER_MACHINE_PENDING);
@@ -123,25 +97,20 @@ static void print_slept(struct simulator *s, uint8_t code, bool pending)
         [KEYLOCKER_WAKE_OLD] = "the pending backup is lost, persistent storage has what it had before",
         [KEYLOCKER_WAKE_NEW] = "persistent storage has the backup that was pending",
     };
-    if (s->quiet)
-        return;
-    fputs("        0 done: every IWKey is zero; ", stdout);
+    char room[IWKEY_TEXT];
+    const uint8_t *backup = s->machine.data + KEYLOCKER_MACHINE_BACKUP;
+    add_answer(s, "0 done: every IWKey is zero; ");
     if (code == KEYLOCKER_WAKE_JUNK)
-        fputs("persistent storage has junk", stdout);
+        add_answer(s, "persistent storage has junk");
     else
-        fputs(pending ? kept[code] : "persistent storage has what it had", stdout);
-    fputs("; the backup now: ", stdout);
-    if (machine_byte(s, KEYLOCKER_MACHINE_BACKUP) == 0)
-        fputs("none", stdout);
-    else
-        put_iwkey(s, s->machine.data + KEYLOCKER_MACHINE_BACKUP + KEYLOCKER_SLOT_IWKEY);
-    putchar('\n');
+        add_answer(s, "%s", pending ? kept[code] : "persistent storage has what it had");
+    print_answer(s, "; the backup now: %s", backup[KEYLOCKER_SLOT_PRESENT] ? iwkey_text(s, backup + KEYLOCKER_SLOT_IWKEY, room) : "none");
 }
 
 void run_sleep(struct simulator *s)
 {
-    static const char *const names[] = {[KEYLOCKER_WAKE_OLD] = "old", [KEYLOCKER_WAKE_NEW] = "new", [KEYLOCKER_WAKE_JUNK] = "junk"};
-    uint8_t code = take_code(s, names, 3, "old, new, junk, or a code from 0 to 255");
+    static const struct choice codes[] = {{"old", KEYLOCKER_WAKE_OLD}, {"new", KEYLOCKER_WAKE_NEW}, {"junk", KEYLOCKER_WAKE_JUNK}};
+    uint8_t code = (uint8_t)TAKE_CHOICE(&s->line, codes, UINT8_MAX, "old, new, junk, or a code from 0 to 255");
     take_end(&s->line);
     print_statement(s);
     bool pending = machine_byte(s, KEYLOCKER_MACHINE_PENDING);

@@ -4,7 +4,12 @@
 #include <stdio.h>
 #include <string.h>
 
+#include "json.h"
+#include "refusal.h"
+
 enum { TEXT_LIMIT = 180, CUT = 128 };
+
+/* ---- statements */
 
 static void end_saying(struct simulator *s)
 {
@@ -23,7 +28,7 @@ static void put_statement(struct simulator *s)
 
 void print_statement(struct simulator *s)
 {
-    if (s->quiet)
+    if (s->options.quiet || s->options.json)
         return;
     put_statement(s);
     putchar('\n');
@@ -36,16 +41,64 @@ void print_shown_statement(struct simulator *s)
     print_statement(s);
 }
 
-void print_answer(struct simulator *s, const char *format, ...)
+void say(struct simulator *s)
 {
-    if (s->quiet)
+    size_t blanks = 3;
+    while (blanks < s->line.len && (s->line.text[blanks] == ' ' || s->line.text[blanks] == '\t'))
+        blanks++;
+    if (s->options.json) {
+        json_said(s, s->line.text + blanks, s->line.len - blanks);
         return;
-    fputs("        ", stdout);
+    }
+    if (!s->said && s->printed)
+        putchar('\n');
+    s->said = s->printed = true;
+    fwrite(s->line.text + blanks, 1, s->line.len - blanks, stdout);
+    putchar('\n');
+}
+
+/* ---- answers */
+
+static bool silent(const struct simulator *s)
+{
+    return s->options.quiet && !s->options.json;
+}
+
+static void add_arguments(struct simulator *s, const char *format, va_list arguments)
+{
+    if (!silent(s))
+        bytes_print(&s->answer, format, arguments);
+}
+
+void add_answer(struct simulator *s, const char *format, ...)
+{
     va_list arguments;
     va_start(arguments, format);
-    vprintf(format, arguments);
+    add_arguments(s, format, arguments);
     va_end(arguments);
+}
+
+void end_answer(struct simulator *s)
+{
+    if (silent(s))
+        return;
+    if (s->options.json) {
+        add_answer(s, "\n");
+        return;
+    }
+    fputs("        ", stdout);
+    fwrite(s->answer.data, 1, s->answer.len, stdout);
     putchar('\n');
+    s->answer.len = 0;
+}
+
+void print_answer(struct simulator *s, const char *format, ...)
+{
+    va_list arguments;
+    va_start(arguments, format);
+    add_arguments(s, format, arguments);
+    va_end(arguments);
+    end_answer(s);
 }
 
 void put_hex(const uint8_t *data, size_t len)
@@ -62,7 +115,8 @@ void put_hex(const uint8_t *data, size_t len)
     }
 }
 
-void put_hex_cut(const uint8_t *data, size_t len)
+/* Many are cut short. */
+static void put_hex_cut(const uint8_t *data, size_t len)
 {
     put_hex(data, len > CUT ? 32 : len);
     if (len > CUT)
@@ -73,132 +127,121 @@ void put_hex_cut(const uint8_t *data, size_t len)
 
 void print_result(struct simulator *s, const char *text, const struct name *name, const uint8_t *data, size_t len)
 {
-    if (s->quiet)
+    s->last.name = name;
+    s->last.has_result = true;
+    if (s->options.json)
+        bytes_assign(&s->result, data, len);
+    if (s->options.json || s->options.quiet)
         return;
     printf("        %s%s", name == NULL ? text : name->text, name == NULL ? " " : " = ");
     put_hex_cut(data, len);
     putchar('\n');
 }
 
-void put_iwkey(const struct simulator *s, const uint8_t *iwkey)
+static void add_hex(char *text, const uint8_t *data, size_t len)
+{
+    text += strlen(text);
+    for (size_t i = 0; i < len; i++)
+        text += sprintf(text, "%02x", data[i]);
+}
+
+const char *iwkey_text(const struct simulator *s, const uint8_t *iwkey, char room[IWKEY_TEXT])
 {
     static const uint8_t zero[KEYLOCKER_IWKEY_SOURCE];
-    if (memcmp(iwkey, zero, sizeof zero) == 0) {
-        fputs("all zero", stdout);
-        return;
-    }
+    if (memcmp(iwkey, zero, sizeof zero) == 0)
+        return "all zero";
     for (size_t i = 0; i < s->names.count; i++) {
         const struct name *name = s->names.all[i];
-        if (name->is_iwkey && memcmp(name->value.data, iwkey, KEYLOCKER_IWKEY_SOURCE) == 0) {
-            fputs(name->text, stdout);
-            return;
-        }
+        if (name->is_iwkey && memcmp(name->value.data, iwkey, KEYLOCKER_IWKEY_SOURCE) == 0)
+            return name->text;
     }
-    fputs("integrity ", stdout);
-    put_hex(iwkey + KEYLOCKER_IWKEY_INTEGRITY, 16);
-    fputs(" encryption ", stdout);
-    put_hex(iwkey + KEYLOCKER_IWKEY_ENCRYPTION, 32);
+    strcpy(room, "integrity ");
+    add_hex(room, iwkey + KEYLOCKER_IWKEY_INTEGRITY, KEYLOCKER_IWKEY_ENCRYPTION - KEYLOCKER_IWKEY_INTEGRITY);
+    strcat(room, " encryption ");
+    add_hex(room, iwkey + KEYLOCKER_IWKEY_ENCRYPTION, KEYLOCKER_IWKEY_SOURCE - KEYLOCKER_IWKEY_ENCRYPTION);
+    return room;
 }
 
-void print_expectation(struct simulator *s, bool met)
+/* ---- expectations */
+
+void print_met(struct simulator *s)
 {
-    if (met && s->quiet)
+    if (s->options.json) {
+        json_met(s);
+    } else if (!s->options.quiet) {
+        put_statement(s);
+        puts(": met");
+    }
+}
+
+void print_unmet(struct simulator *s, const char *format, ...)
+{
+    struct bytes found = {0};
+    va_list arguments;
+    va_start(arguments, format);
+    bytes_print(&found, format, arguments);
+    va_end(arguments);
+    if (s->options.json) {
+        json_unmet(s, &found);
+    } else {
+        put_statement(s);
+        printf(": NOT MET, %.*s\n", (int)found.len, (const char *)found.data);
+    }
+    bytes_free(&found);
+}
+
+/* ---- calls */
+
+bool wrote_zf(const struct last *last)
+{
+    return last->answer == KEYLOCKER_DONE &&
+           (last->call == CALL_LOAD || last->call == CALL_ENCODE || last->call == CALL_USE || last->call == CALL_UNKNOWN_STEP || last->call == CALL_CTR);
+}
+
+void count_unexpected(struct simulator *s)
+{
+    const struct last *last = &s->last;
+    if (last->call == CALL_NONE || last->expected || !(last->answer != KEYLOCKER_DONE || (wrote_zf(last) && last->zf)))
         return;
-    put_statement(s);
-    fputs(met ? ": met\n" : ": NOT MET, ", stdout);
-}
-
-static const char *general_protection(enum call call)
-{
-    switch (call) {
-    case CALL_LOAD:
-        return "#GP(0): CPL above 0, EAX bits 31:5 set, a key source above 1, or NoBackup or the random source not supported";
-    case CALL_ENCODE:
-        return "#GP(0): restriction bits 31:3 set";
-    case CALL_USE:
-        return "#GP(0): the address of a handle byte is not canonical";
-    case CALL_READ:
-        return "#GP(0): CPL above 0, no backup registers on this machine, or none that is read at this address";
-    case CALL_WRITE:
-        return "#GP(0): CPL above 0, no backup registers on this machine, none that is written at this address, or bits 63:1 set";
-    default:
-        return "#GP(0)";
-    }
-}
-
-static const char *refusal_words(enum call call, uint32_t number)
-{
-    switch (number) {
-    case KEYLOCKER_BAD_MACHINE:
-        return call == CALL_POWER_ON ? "the processor count or the features are not possible" : "these bytes are no machine; was it powered on?";
-    case KEYLOCKER_BAD_CODE:
-        return call == CALL_SETTLE ? "settle code unknown" : "wake code unknown";
-    case KEYLOCKER_BAD_PROCESSOR:
-        return "the machine has no such processor";
-    case KEYLOCKER_BAD_CPU_SIZE:
-        return "the CPU record does not have 408 bytes";
-    case KEYLOCKER_BAD_CPU:
-        return "CPL above 3, or a zero field of the CPU record is not zero";
-    case KEYLOCKER_BAD_SIZE:
-        return "more than 65,536 bytes, a handle neither 48 nor 64, or a counter block not 16";
-    case KEYLOCKER_BAD_MEMORY:
-        return "memory above 1,048,576 bytes";
-    case KEYLOCKER_BAD_RANDOM:
-        return "random data neither 0 nor 48 bytes";
-    case KEYLOCKER_BAD_BYTE:
-        return "the string has a byte that no instruction has there";
-    case KEYLOCKER_STRING_ENDS:
-        return "the string ends inside an instruction";
-    case KEYLOCKER_UD:
-        return "#UD: LOCK, or a feature or CR4.KL or CR4.OSFXSR is off, or CR0.EM is on";
-    case KEYLOCKER_NM:
-        return "#NM: CR0.TS is on";
-    case KEYLOCKER_GP:
-        return general_protection(call);
-    case KEYLOCKER_SS:
-        return "#SS(0): the address of a handle byte in the stack segment is not canonical";
-    case KEYLOCKER_PF:
-        return "#PF: a handle byte lies outside memory";
-    case KEYLOCKER_BAD_KEYRING:
-        return call == CALL_KEYRING_ADD ? "these bytes are no keyring, the label has not 12 bytes, or the handle neither 48 nor 64"
-                                        : "these bytes are no keyring, or the label has not 12 bytes";
-    case KEYLOCKER_NO_LABEL:
-        return "no record of the label's chain has it";
-    case KEYLOCKER_KEYRING_FULL:
-        return "the label is not there, and every record but 0 is on a chain";
-    default:
-        return "an answer that this program does not know";
-    }
+    if (s->counts.unexpected++ == 0)
+        s->counts.first_unexpected = last->line;
 }
 
 bool answered(struct simulator *s, enum call call, uint32_t answer)
 {
-    s->last = (struct last){.call = call, .answer = answer};
+    count_unexpected(s);
+    s->last = (struct last){.call = call, .line = s->line.number, .processor = s->processor, .answer = answer};
+    s->called = true;
     s->counts.calls++;
     if (answer == KEYLOCKER_DONE)
         return true;
     s->counts.refused++;
-    print_answer(s, "%u %s", (unsigned)answer, refusal_words(call, answer));
+    add_answer(s, "%u ", (unsigned)answer);
+    add_refusal(s, call, answer);
+    end_answer(s);
     return false;
 }
 
-void say(struct simulator *s)
+void end_call(struct simulator *s)
 {
-    if (!s->said && s->printed)
-        putchar('\n');
-    s->said = s->printed = true;
-    size_t blanks = 3;
-    while (blanks < s->line.len && (s->line.text[blanks] == ' ' || s->line.text[blanks] == '\t'))
-        blanks++;
-    fwrite(s->line.text + blanks, 1, s->line.len - blanks, stdout);
-    putchar('\n');
+    if (s->options.json)
+        json_called(s);
+    s->answer.len = s->instruction.len = 0;
 }
 
-void print_summary(const struct simulator *s)
+void print_summary(const struct simulator *s, int status, bool interrupted)
 {
     const struct counts *c = &s->counts;
+    if (s->options.json) {
+        json_summary(s, status, interrupted);
+        return;
+    }
     if (s->printed)
         putchar('\n');
-    printf("%zu lines, %zu calls, %zu of them refused; %zu expectations, %zu of them not met\n", s->line.number, c->calls, c->refused, c->expects,
-           c->unmet);
+    printf("%zu lines, %zu calls, %zu of them refused; %zu expectations, %zu of them not met", s->line.number, c->calls, c->refused, c->expects, c->unmet);
+    if (s->options.strict)
+        printf("; %zu calls refused or with ZF 1 that no expectation names", c->unexpected);
+    if (c->bad > 0)
+        printf("; %zu bad lines", c->bad);
+    puts(interrupted ? "; interrupted" : "");
 }

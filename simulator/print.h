@@ -4,32 +4,46 @@
 
 #include "simulator.h"
 
-/* The statement's line number and text. Nothing when quiet. */
+/* The statement's line number and text. Nothing when quiet or as JSON. */
 void print_statement(struct simulator *s);
 
-/* The same for a statement that prints even when quiet, behind it. */
+/* The same for a statement that prints text even when quiet, behind it. */
 void print_shown_statement(struct simulator *s);
 
-/* A line below the statement, as by printf. Nothing when quiet. */
+/* A line below the statement, put together by several of add_answer, as by printf, and ended. JSON has it as the call's text. Nothing when quiet. */
+void add_answer(struct simulator *s, const char *format, ...) __attribute__((format(printf, 2, 3)));
+void end_answer(struct simulator *s);
+
+/* Such a line at once. */
 void print_answer(struct simulator *s, const char *format, ...) __attribute__((format(printf, 2, 3)));
 
-/* A line below the statement: the name that the bytes are given, or the text where there is none, and the bytes. */
+/* The call's result: the name that the bytes are given, or the text where there is none, and the bytes. */
 void print_result(struct simulator *s, const char *text, const struct name *name, const uint8_t *data, size_t len);
 
-/* Bytes in hexadecimal, whether or not quiet; the second cuts many short. */
+/* Bytes in hexadecimal, whether or not quiet. */
 void put_hex(const uint8_t *data, size_t len);
-void put_hex_cut(const uint8_t *data, size_t len);
 
-/* The name that the trace gave the IWKey, "all zero", or its bytes. */
-void put_iwkey(const struct simulator *s, const uint8_t *iwkey);
+/* The name that the trace gave the IWKey, "all zero", or its bytes, which take the room. */
+enum { IWKEY_TEXT = 128 };
+const char *iwkey_text(const struct simulator *s, const uint8_t *iwkey, char room[IWKEY_TEXT]);
 
-/* The expectation, and whether it is met; where it is not, the caller ends the line with what was found instead. Those met are not printed when quiet. */
-void print_expectation(struct simulator *s, bool met);
+/* An expectation that is met, and one that is not with what was found instead. Those met are not printed when quiet. */
+void print_met(struct simulator *s);
+void print_unmet(struct simulator *s, const char *format, ...) __attribute__((format(printf, 2, 3)));
 
 /* Keeps the last call's answer for expect, and says a refusal in words; whether the call was done. */
 bool answered(struct simulator *s, enum call call, uint32_t answer);
 
+/* Behind a statement that made a call, when all of it is said. */
+void end_call(struct simulator *s);
+
+/* Whether the call left ZF to be looked at. */
+bool wrote_zf(const struct last *last);
+
+/* Counts the last call where it was refused, or left ZF 1, and no expectation spoke of it: before the next one, and at the end. */
+void count_unexpected(struct simulator *s);
+
 void say(struct simulator *s);
-void print_summary(const struct simulator *s);
+void print_summary(const struct simulator *s, int status, bool interrupted);
 
 #endif

@@ -1,55 +1,34 @@
 #include "processor.h"
 
 #include <inttypes.h>
-#include <stdio.h>
 #include <string.h>
 
 #include "cpuid.h"
 #include "define.h"
+#include "execute.h"
 #include "expect.h"
 #include "instructions.h"
 #include "platform.h"
 #include "print.h"
+#include "reason.h"
 #include "record.h"
 #include "show.h"
 #include "value.h"
 
-static struct cpu *this_cpu(struct simulator *s)
-{
-    return &s->cpus[s->processor];
-}
-
-static uint8_t cpl_of(struct simulator *s)
-{
-    return s->cpl >= 0 ? (uint8_t)s->cpl : this_cpu(s)->record[KEYLOCKER_CPU_CPL];
-}
-
 /* ---- steps */
 
-/* The record gets the CPL of the statement for one call; the one that it had. */
-static uint8_t lend_cpl(struct simulator *s)
+static void print_stepped(struct simulator *s, uint64_t rip_before)
 {
-    uint8_t own_cpl = this_cpu(s)->record[KEYLOCKER_CPU_CPL];
-    this_cpu(s)->record[KEYLOCKER_CPU_CPL] = cpl_of(s);
-    return own_cpl;
-}
-
-/* Behind that call, which has written ZF where it was done. */
-static bool cpu_answered(struct simulator *s, enum call call, uint32_t answer, uint8_t own_cpl)
-{
-    this_cpu(s)->record[KEYLOCKER_CPU_CPL] = own_cpl;
-    bool done = answered(s, call, answer);
-    s->last.zf = zf_of(this_cpu(s));
-    return done;
-}
-
-bool execute(struct simulator *s, enum call call, const uint8_t *string, size_t len, const struct bytes *random)
-{
-    struct cpu *cpu = this_cpu(s);
-    uint8_t own_cpl = lend_cpl(s);
-    uint32_t answer = keylocker_step(s->machine.data, s->machine.len, (uint8_t)s->processor, cpu->record, cpu->len, s->memory, s->memory_len,
-                                     random == NULL ? NULL : random->data, random == NULL ? 0 : random->len, string, len);
-    return cpu_answered(s, call, answer, own_cpl);
+    if (s->last.call == CALL_IDLE) {
+        print_answer(s, "0 done: an idle step");
+        return;
+    }
+    add_answer(s, "0 done, ZF %u: RIP is %" PRIu64 " bytes on", s->last.zf, keylocker_get_rip(this_cpu(s)->record) - rip_before);
+    if (s->last.call == CALL_USE && s->last.zf) {
+        add_answer(s, "; ");
+        add_use_reason(s);
+    }
+    end_answer(s);
 }
 
 static void run_step(struct simulator *s)
@@ -61,30 +40,29 @@ static void run_step(struct simulator *s)
         take_bytes(s, "not-ready or random data", &s->right);
     take_end(&s->line);
     print_statement(s);
-    const struct field *rip = register_named((struct word){"rip", 3});
-    uint64_t before = get_field(this_cpu(s), rip);
-    if (!execute(s, call_of(s->left.data, s->left.len), s->left.data, s->left.len, &s->right))
-        return;
-    if (s->left.len == 0)
-        print_answer(s, "0 done: an idle step");
-    else
-        print_answer(s, "0 done, ZF %u: RIP is %" PRIu64 " bytes on", s->last.zf, get_field(this_cpu(s), rip) - before);
+    print_instruction(s, s->left.data, s->left.len);
+    uint64_t rip = keylocker_get_rip(this_cpu(s)->record);
+    if (execute(s, s->left.data, s->left.len, &s->right))
+        print_stepped(s, rip);
 }
 
 /* ---- counter mode */
 
-static void print_counted(struct simulator *s, const struct name *result)
+static void print_counted(struct simulator *s, const struct counted *c, const struct name *result)
 {
-    size_t len = s->left.len, counters = (len + 15) / 16;
-    if (s->last.zf)
-        print_answer(s, "0 done, ZF 1: not a handle of this IWKey, or not for this use; the bytes are unchanged");
-    else if (len == 0)
+    size_t len = c->buffer->len, counters = (len + 15) / 16;
+    if (s->last.zf) {
+        add_answer(s, "0 done, ZF 1: ");
+        add_reason(s, c->handle, c->handle_len == KEYLOCKER_HANDLE_256_SIZE ? 32 : 16, true);
+        print_answer(s, "; the bytes are unchanged");
+        return;
+    }
+    if (len == 0)
         print_answer(s, "0 done, ZF 0: the handle opens, there are no bytes");
     else
         print_answer(s, "0 done, ZF 0: the handle opens, %zu byte%s XORed with %zu encrypted counter%s", len, len == 1 ? " is" : "s are", counters,
                      counters == 1 ? "" : "s");
-    if (!s->last.zf)
-        print_result(s, "result", result, s->left.data, len);
+    print_result(s, "result", result, c->buffer->data, len);
 }
 
 /* Handle and counter block are one word each, of any length, so that a trace can see others refused. */
@@ -99,13 +77,10 @@ static void run_ctr(struct simulator *s)
     struct name *result = take_result(s);
     take_end(&s->line);
     print_statement(s);
-    struct cpu *cpu = this_cpu(s);
-    uint8_t own_cpl = lend_cpl(s);
-    uint32_t answer = keylocker_ctr(s->machine.data, s->machine.len, (uint8_t)s->processor, cpu->record, cpu->len, s->right.data, handle_len,
-                                    s->right.data + handle_len, s->right.len - handle_len, s->left.data, s->left.len);
-    bool done = cpu_answered(s, CALL_CTR, answer, own_cpl);
+    struct counted counted = {s->right.data, s->right.data + handle_len, handle_len, s->right.len - handle_len, &s->left};
+    bool done = count(s, &counted);
     if (done)
-        print_counted(s, result);
+        print_counted(s, &counted, result);
     if (done && !s->last.zf)
         give_value(s, result, s->left.data, s->left.len);
     else
@@ -132,28 +107,16 @@ static void run_cpuid(struct simulator *s)
 
 /* ---- backup registers */
 
-static const struct {
-    const char *name;
-    uint32_t address;
-} backup_registers[] = {
-    {"ia32_copy_status", KEYLOCKER_COPY_STATUS},
-    {"ia32_iwkeybackup_status", KEYLOCKER_IWKEYBACKUP_STATUS},
-    {"ia32_copy_local_to_platform", KEYLOCKER_COPY_LOCAL_TO_PLATFORM},
-    {"ia32_copy_platform_to_local", KEYLOCKER_COPY_PLATFORM_TO_LOCAL},
-};
-
 static uint32_t take_register(struct simulator *s)
 {
-    static const char expected[] = "IA32_COPY_STATUS, IA32_IWKEYBACKUP_STATUS, IA32_COPY_LOCAL_TO_PLATFORM, IA32_COPY_PLATFORM_TO_LOCAL "
-                                   "or an address of 32 bits";
-    struct word word = take_word(&s->line, expected);
-    uint64_t address;
-    for (size_t i = 0; i < sizeof backup_registers / sizeof *backup_registers; i++)
-        if (word_is(word, backup_registers[i].name))
-            return backup_registers[i].address;
-    if (!number_in(word.text, word.len, &address) || address > UINT32_MAX)
-        bad_line(&s->line, "expected %s, not '%.*s'", expected, shown(word.len), word.text);
-    return (uint32_t)address;
+    static const struct choice backup_registers[] = {
+        {"ia32_copy_status", KEYLOCKER_COPY_STATUS},
+        {"ia32_iwkeybackup_status", KEYLOCKER_IWKEYBACKUP_STATUS},
+        {"ia32_copy_local_to_platform", KEYLOCKER_COPY_LOCAL_TO_PLATFORM},
+        {"ia32_copy_platform_to_local", KEYLOCKER_COPY_PLATFORM_TO_LOCAL},
+    };
+    return TAKE_CHOICE(&s->line, backup_registers, UINT32_MAX,
+                       "IA32_COPY_STATUS, IA32_IWKEYBACKUP_STATUS, IA32_COPY_LOCAL_TO_PLATFORM, IA32_COPY_PLATFORM_TO_LOCAL or an address of 32 bits");
 }
 
 static void run_read(struct simulator *s)

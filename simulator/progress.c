@@ -1,8 +1,9 @@
-#define _POSIX_C_SOURCE 200809L // clock_gettime, isatty
+#define _DEFAULT_SOURCE // clock_gettime, isatty, struct winsize
 
 #include "progress.h"
 
 #include <stdio.h>
+#include <sys/ioctl.h>
 #include <time.h>
 #include <unistd.h>
 
@@ -31,12 +32,21 @@ void progress_start(uint64_t total, bool printing)
     }
 }
 
+/* As many characters as fit: a text that goes on in a second row could not be taken away. */
+static int width(void)
+{
+    struct winsize size;
+    return ioctl(STDERR_FILENO, TIOCGWINSZ, &size) == 0 && size.ws_col > 1 ? size.ws_col - 1 : 79;
+}
+
 static void show(size_t number, uint64_t consumed, double now)
 {
-    fprintf(stderr, "\rline %zu", number);
+    char text[128];
+    int len = snprintf(text, sizeof text, "line %zu", number);
     if (progress.total > 0)
-        fprintf(stderr, ", %.0f %%", 100.0 * (double)consumed / (double)progress.total);
-    fprintf(stderr, ", %.0f lines/s\033[K", (double)number / (now - progress.start));
+        len += snprintf(text + len, sizeof text - (size_t)len, ", %.0f %%", 100.0 * (double)consumed / (double)progress.total);
+    snprintf(text + len, sizeof text - (size_t)len, ", %.0f lines/s", (double)number / (now - progress.start));
+    fprintf(stderr, "\r%.*s\033[K", width(), text);
     fflush(stderr);
     progress.visible = true;
 }

@@ -1,28 +1,33 @@
+#define _POSIX_C_SOURCE 200809L // ssize_t, read
+
 #include "reader.h"
 
+#include <stdio.h>
 #include <stdlib.h>
 #include <string.h>
+#include <unistd.h>
 
 #include "bytes.h"
+#include "interrupt.h"
 
-void reader_open_file(struct reader *r, FILE *file)
+void reader_open_file(struct reader *r, int fd)
 {
-    *r = (struct reader){.file = file, .room = 1 << 16};
+    *r = (struct reader){.fd = fd, .room = 1 << 16};
     r->data = r->buffer = allocate(NULL, r->room);
 }
 
 void reader_open_text(struct reader *r, const char *text, size_t len)
 {
-    *r = (struct reader){.data = text, .end = len, .ended = true};
+    *r = (struct reader){.fd = -1, .data = text, .end = len, .ended = true};
 }
 
 void reader_close(struct reader *r)
 {
     free(r->buffer);
-    *r = (struct reader){0};
+    *r = (struct reader){.fd = -1};
 }
 
-/* More bytes behind those not yet given; a buffer that one line fills doubles. */
+/* What there is, behind the bytes not yet given; a buffer that one line fills doubles. */
 static enum reading fill(struct reader *r)
 {
     size_t rest = r->end - r->begin;
@@ -35,10 +40,25 @@ static enum reading fill(struct reader *r)
         r->room *= 2;
         r->data = r->buffer = allocate(r->buffer, r->room);
     }
-    size_t got = fread(r->buffer + rest, 1, r->room - rest, r->file);
-    r->end += got;
+    fflush(stdout); // an error stays, and is told at the end
+    if (!wait_readable(r->fd))
+        return READING_INTERRUPTED;
+    ssize_t got = read(r->fd, r->buffer + rest, r->room - rest);
+    if (got < 0)
+        return READING_ERROR;
+    r->end += (size_t)got;
     r->ended = got == 0;
-    return ferror(r->file) ? READING_ERROR : READING_LINE;
+    return READING_LINE;
+}
+
+/* Some editors put one in front of UTF-8. */
+static void skip_mark(struct reader *r, const char **text, size_t *len)
+{
+    static const char mark[] = "\xEF\xBB\xBF";
+    if (r->consumed != 0 || *len < sizeof mark - 1 || memcmp(*text, mark, sizeof mark - 1) != 0)
+        return;
+    *text += sizeof mark - 1;
+    *len -= sizeof mark - 1;
 }
 
 enum reading reader_next(struct reader *r, const char **text, size_t *len)
@@ -60,6 +80,7 @@ enum reading reader_next(struct reader *r, const char **text, size_t *len)
     *text = r->data + r->begin;
     *len = newline == NULL ? searched : (size_t)(newline - *text);
     size_t taken = *len + (newline != NULL);
+    skip_mark(r, text, len);
     r->begin += taken;
     r->consumed += taken;
     if (*len > 0 && (*text)[*len - 1] == '\r')

@@ -5,15 +5,14 @@
 #include <stdbool.h>
 #include <stddef.h>
 #include <stdint.h>
-#include <stdio.h>
 
 /* Longer than any line that says something: guest memory as hexadecimal is an eighth of it. */
 #define LINE_LIMIT ((size_t)16 * 1024 * 1024)
 
-enum reading { READING_LINE, READING_END, READING_TOO_LONG, READING_ERROR };
+enum reading { READING_LINE, READING_END, READING_TOO_LONG, READING_ERROR, READING_INTERRUPTED };
 
 struct reader {
-    FILE *file; /* none for a text */
+    int fd; /* -1 for a text */
     const char *data;
     char *buffer;
     size_t begin, end, room;
@@ -21,11 +20,12 @@ struct reader {
     bool ended;
 };
 
-void reader_open_file(struct reader *r, FILE *file);
+void reader_open_file(struct reader *r, int fd);
 void reader_open_text(struct reader *r, const char *text, size_t len);
 void reader_close(struct reader *r);
 
-/* The next line, without its end (LF or CR LF). It is there until the next call. */
+/* The next line, without its end (LF or CR LF), and the first without a byte-order mark. It is there until the next call. Standard output is flushed before a
+ * read that may block, so that whoever waits for the answers to the lines so far has them. */
 enum reading reader_next(struct reader *r, const char **text, size_t *len);
 
 #endif

@@ -25,7 +25,7 @@ static const struct field fields[] = {
     {"control", KEYLOCKER_CPU_CONTROL, 1},
 };
 
-enum { FIELDS = sizeof fields / sizeof *fields, RFLAGS_FIELD = 17 };
+enum { FIELDS = sizeof fields / sizeof *fields };
 
 int xmm_named(struct word word)
 {
@@ -57,29 +57,13 @@ uint8_t *xmm_of(struct cpu *cpu, unsigned n)
 
 uint64_t get_field(const struct cpu *cpu, const struct field *field)
 {
-    uint64_t value = 0;
-    for (size_t i = 0; i < field->size; i++)
-        value |= (uint64_t)cpu->record[field->at + i] << 8 * i;
-    return value;
+    return field->size == 1 ? cpu->record[field->at] : keylocker_get_64(cpu->record, field->at);
 }
 
 void set_field(struct cpu *cpu, const struct field *field, uint64_t value)
 {
-    for (size_t i = 0; i < field->size; i++)
-        cpu->record[field->at + i] = (uint8_t)(value >> 8 * i);
-}
-
-uint64_t get_register(const struct cpu *cpu, unsigned n)
-{
-    return get_field(cpu, &fields[n]);
-}
-
-void set_register(struct cpu *cpu, unsigned n, uint64_t value)
-{
-    set_field(cpu, &fields[n], value);
-}
-
-unsigned zf_of(const struct cpu *cpu)
-{
-    return (get_field(cpu, &fields[RFLAGS_FIELD]) & KEYLOCKER_RFLAGS_ZF) != 0;
+    if (field->size == 1)
+        cpu->record[field->at] = (uint8_t)value;
+    else
+        keylocker_set_64(cpu->record, field->at, value);
 }

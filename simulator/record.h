@@ -20,8 +20,4 @@ uint8_t *xmm_of(struct cpu *cpu, unsigned n);
 uint64_t get_field(const struct cpu *cpu, const struct field *field);
 void set_field(struct cpu *cpu, const struct field *field, uint64_t value);
 
-uint64_t get_register(const struct cpu *cpu, unsigned n);
-void set_register(struct cpu *cpu, unsigned n, uint64_t value);
-unsigned zf_of(const struct cpu *cpu);
-
 #endif

@@ -4,6 +4,7 @@
 #include <stdio.h>
 #include <string.h>
 
+#include "json.h"
 #include "keyring.h"
 #include "print.h"
 #include "record.h"
@@ -13,8 +14,8 @@
 
 static void put_key(const struct simulator *s, const uint8_t *iwkey)
 {
-    put_iwkey(s, iwkey);
-    printf(" (key source %u, NoBackup %u)", iwkey[KEYLOCKER_IWKEY_SOURCE], iwkey[KEYLOCKER_IWKEY_NO_BACKUP]);
+    char room[IWKEY_TEXT];
+    printf("%s (key source %u, NoBackup %u)", iwkey_text(s, iwkey, room), iwkey[KEYLOCKER_IWKEY_SOURCE], iwkey[KEYLOCKER_IWKEY_NO_BACKUP]);
 }
 
 static void show_slot(const struct simulator *s, const char *what, size_t at)
@@ -28,11 +29,31 @@ static void show_slot(const struct simulator *s, const char *what, size_t at)
     putchar('\n');
 }
 
-static void show_machine(const struct simulator *s)
+/* Whether calls take it; the question is one that changes nothing, put to a copy. */
+static bool is_machine(const struct simulator *s)
+{
+    uint8_t copy[KEYLOCKER_MACHINE_SIZE];
+    if (s->machine.len != sizeof copy)
+        return false;
+    memcpy(copy, s->machine.data, sizeof copy);
+    return keylocker_taken(copy, sizeof copy) == KEYLOCKER_DONE;
+}
+
+static bool all_zero(const uint8_t *data, size_t len)
+{
+    size_t i = 0;
+    while (i < len && data[i] == 0)
+        i++;
+    return i == len;
+}
+
+static void show_machine(struct simulator *s)
 {
     const uint8_t *m = s->machine.data;
-    if (s->machine.len != KEYLOCKER_MACHINE_SIZE || m[KEYLOCKER_MACHINE_COUNT] > KEYLOCKER_PROCESSORS) {
-        printf("        %zu bytes, which are no machine\n", s->machine.len);
+    if (!is_machine(s)) {
+        bool fresh = s->machine.len == KEYLOCKER_MACHINE_SIZE && all_zero(m, s->machine.len);
+        printf("        %zu bytes, %s; every call but power-on is refused, %d\n", s->machine.len,
+               fresh ? "all zero: the machine is not powered on" : "which are no machine", KEYLOCKER_BAD_MACHINE);
         return;
     }
     printf("        processors %u, features 0x%02x\n", m[KEYLOCKER_MACHINE_COUNT], m[KEYLOCKER_MACHINE_FEATURES]);
@@ -50,16 +71,10 @@ static void show_machine(const struct simulator *s)
 
 /* ---- a processor */
 
-static bool zero_block(const uint8_t *block)
-{
-    static const uint8_t zero[16];
-    return memcmp(block, zero, 16) == 0;
-}
-
 /* Registers that are zero are left out, but CPL and control bits are always told. */
 static void show_cpu(struct simulator *s)
 {
-    struct cpu *cpu = &s->cpus[s->processor];
+    struct cpu *cpu = this_cpu(s);
     printf("        record of %zu bytes", cpu->len);
     for (size_t i = 0; register_numbered(i) != NULL; i++) {
         const struct field *field = register_numbered(i);
@@ -69,7 +84,7 @@ static void show_cpu(struct simulator *s)
     }
     putchar('\n');
     for (unsigned n = 0; n < 16; n++) {
-        if (zero_block(xmm_of(cpu, n)))
+        if (all_zero(xmm_of(cpu, n), 16))
             continue;
         printf("        xmm%u ", n);
         put_hex(xmm_of(cpu, n), 16);
@@ -77,13 +92,37 @@ static void show_cpu(struct simulator *s)
     }
 }
 
-/* ---- bytes */
+static void show_register(struct simulator *s, const struct field *field)
+{
+    uint64_t value = get_field(this_cpu(s), field);
+    print_shown_statement(s);
+    if (s->options.json)
+        json_shown_register(s, field->name, value);
+    else
+        printf("        %s 0x%" PRIx64 "\n", field->name, value);
+}
+
+/* ---- statements */
+
+/* In words, or all bytes as JSON. */
+static void show_words(struct simulator *s, const char *what, const uint8_t *data, size_t len, void (*show)(struct simulator *s))
+{
+    print_shown_statement(s);
+    if (s->options.json)
+        json_shown_bytes(s, what, data, len);
+    else
+        show(s);
+}
 
 static void show_bytes(struct simulator *s)
 {
     take_bytes(s, "machine, keyring or bytes", &s->left);
     take_end(&s->line);
     print_shown_statement(s);
+    if (s->options.json) {
+        json_shown_bytes(s, "bytes", s->left.data, s->left.len);
+        return;
+    }
     for (size_t i = 0; i < s->left.len; i += 32) {
         printf("        %6zx  ", i);
         put_hex(s->left.data + i, s->left.len - i < 32 ? s->left.len - i : 32);
@@ -93,23 +132,24 @@ static void show_bytes(struct simulator *s)
 
 void run_show(struct simulator *s)
 {
-    if (s->line.count == 2 && accept(&s->line, "machine")) {
-        print_shown_statement(s);
-        show_machine(s);
-    } else if (s->line.count == 2 && accept(&s->line, "keyring")) {
-        print_shown_statement(s);
-        show_keyring(s);
-    } else {
+    if (s->line.count == 2 && accept(&s->line, "machine"))
+        show_words(s, "machine", s->machine.data, s->machine.len, show_machine);
+    else if (s->line.count == 2 && accept(&s->line, "keyring"))
+        show_words(s, "keyring", s->keyring.data, s->keyring.len, show_keyring);
+    else
         show_bytes(s);
-    }
 }
 
 void run_cpu_show(struct simulator *s)
 {
-    if (!at_end(&s->line)) {
+    const struct field *field = at_end(&s->line) ? NULL : register_named(s->line.words[s->line.next]);
+    if (at_end(&s->line)) {
+        show_words(s, "record", this_cpu(s)->record, this_cpu(s)->len, show_cpu);
+    } else if (field != NULL) {
+        s->line.next++;
+        take_end(&s->line);
+        show_register(s, field);
+    } else {
         show_bytes(s);
-        return;
     }
-    print_shown_statement(s);
-    show_cpu(s);
 }

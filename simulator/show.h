@@ -7,7 +7,7 @@
 /* Behind "show". */
 void run_show(struct simulator *s);
 
-/* The same behind "cpu N": bytes, or all registers of the processor. */
+/* The same behind "cpu N": bytes, a register, or all registers of the processor. */
 void run_cpu_show(struct simulator *s);
 
 #endif

@@ -11,10 +11,10 @@
 #include "processor.h"
 #include "show.h"
 
-void simulator_init(struct simulator *s, const char *file, bool quiet)
+void simulator_init(struct simulator *s, const char *file, const struct options *options)
 {
     static const uint8_t zero[KEYLOCKER_MACHINE_SIZE]; // a machine before power-on
-    *s = (struct simulator){.line.file = file, .quiet = quiet, .memory_len = KEYLOCKER_MEMORY_LIMIT, .touched = CPUS};
+    *s = (struct simulator){.line.file = file, .options = *options, .memory_len = KEYLOCKER_MEMORY_LIMIT, .touched = CPUS};
     bytes_assign(&s->machine, zero, sizeof zero);
     s->memory = allocate(NULL, MEMORY_ROOM);
     memset(s->memory, 0, MEMORY_ROOM);
@@ -34,8 +34,16 @@ void simulator_free(struct simulator *s)
     bytes_free(&s->left);
     bytes_free(&s->right);
     bytes_free(&s->hexadecimal);
+    bytes_free(&s->result);
+    bytes_free(&s->instruction);
+    bytes_free(&s->answer);
     free(s->memory);
     free(s->cpus);
+}
+
+struct cpu *this_cpu(struct simulator *s)
+{
+    return &s->cpus[s->processor];
 }
 
 void fresh_cpus(struct simulator *s)
@@ -73,6 +81,7 @@ void run_line(struct simulator *s, const char *text, size_t len)
 {
     s->line.number++;
     s->processor = s->cpl = -1;
+    s->called = false;
     line_split(&s->line, text, len);
     if (at_end(&s->line))
         return;
@@ -80,6 +89,8 @@ void run_line(struct simulator *s, const char *text, size_t len)
     for (size_t i = 0; i < sizeof statements / sizeof *statements; i++) {
         if (word_is(word, statements[i].name)) {
             statements[i].run(s);
+            if (s->called)
+                end_call(s);
             return;
         }
     }

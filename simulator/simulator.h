@@ -31,28 +31,41 @@ struct cpu {
     size_t len; /* of the record that is lent */
 };
 
-enum call { CALL_NONE, CALL_POWER_ON, CALL_LOAD, CALL_ENCODE, CALL_USE, CALL_UNKNOWN_STEP, CALL_CTR, CALL_CPUID, CALL_READ, CALL_WRITE, CALL_TAKEN, CALL_SETTLE,
-            CALL_SLEEP, CALL_RESET, CALL_KEYRING_LOOKUP, CALL_KEYRING_ADD };
+/* Steps are told apart by what they execute. */
+enum call { CALL_NONE, CALL_POWER_ON, CALL_LOAD, CALL_ENCODE, CALL_USE, CALL_IDLE, CALL_UNKNOWN_STEP, CALL_CTR, CALL_CPUID, CALL_READ, CALL_WRITE, CALL_TAKEN,
+            CALL_SETTLE, CALL_SLEEP, CALL_RESET, CALL_KEYRING_LOOKUP, CALL_KEYRING_ADD };
 
 /* The registers that CPUID writes, in their order there. */
 enum { EAX, EBX, ECX, EDX, CPUID_REGISTERS };
 
-/* What the last call of the library answered, for expect. */
+/* What the last call of the library answered, for expect and for JSON. */
 struct last {
     enum call call;
+    size_t line;
+    int processor; /* -1 where the call has none */
+    const struct mnemonic *mnemonic; /* of a step, or none */
+    uint64_t handle; /* the address of the handle of a use */
     uint32_t answer;
     unsigned zf;
     uint64_t value;
     uint32_t cpuid[CPUID_REGISTERS];
     uint8_t kind;
+    const struct name *name; /* that the result was given, or none */
+    bool has_result;
+    bool expected; /* an expectation speaks of the refusal, or of ZF 1 */
 };
 
 struct counts {
-    size_t calls, refused, expects, unmet;
-    size_t first_unmet; /* its line */
+    size_t calls, refused, expects, unmet, unexpected, bad;
+    size_t first_unmet, first_unexpected; /* their lines */
+};
+
+struct options {
+    bool quiet, strict, json;
 };
 
 struct simulator {
+    struct options options;
     struct line line;
     struct names names;
     struct bytes machine; /* KEYLOCKER_MACHINE_SIZE bytes unless the trace lends others */
@@ -65,16 +78,20 @@ struct simulator {
     int cpl;       /* given for the statement alone, or -1 */
     struct bytes left, right, hexadecimal; /* byte strings of the statement */
     struct last last;
+    struct bytes result, instruction, answer; /* of the last call: bytes, and two texts */
+    bool called; /* the statement made a call */
     struct counts counts;
-    bool quiet;
     bool printed, said; /* anything so far; a text by say just before */
 };
 
-void simulator_init(struct simulator *s, const char *file, bool quiet);
+void simulator_init(struct simulator *s, const char *file, const struct options *options);
 void simulator_free(struct simulator *s);
 
 /* Runs one line. */
 void run_line(struct simulator *s, const char *text, size_t len);
+
+/* The processor that the statement is for. */
+struct cpu *this_cpu(struct simulator *s);
 
 /* The records as at power-on: CPL 0, CR4.KL and CR4.OSFXSR set, the rest zero but bit 1 of RFLAGS, which is always 1. */
 void fresh_cpus(struct simulator *s);

@@ -61,7 +61,7 @@ static bool cpu_view(struct simulator *s, struct word word, struct view *view)
         return false;
     if (s->processor < 0)
         bad_line(&s->line, "'%.*s' belongs to a processor; expected cpu N before the statement", shown(word.len), word.text);
-    struct cpu *cpu = &s->cpus[s->processor];
+    struct cpu *cpu = this_cpu(s);
     if (xmm >= 0)
         *view = (struct view){xmm_of(cpu, (unsigned)xmm), 16};
     else
@@ -188,6 +188,12 @@ void take_bytes_of(struct simulator *s, const char *expected, size_t len, struct
         bad_line(&s->line, "expected %s, %zu bytes, and these are %zu", expected, len, out->len);
 }
 
+void need_room(struct simulator *s, const struct name *name, size_t len)
+{
+    if (!names_have_room(&s->names, name, len))
+        bad_line(&s->line, "%zu more bytes in a name; expected at most %zu in all names together", len, NAMES_LIMIT);
+}
+
 struct name *take_new_name(struct simulator *s)
 {
     struct word word = take_word(&s->line, "a name");
@@ -202,19 +208,27 @@ struct name *take_new_name(struct simulator *s)
     uint64_t number;
     if (number_in(word.text, word.len, &number) || ONE_OF(word, stops) || ONE_OF(word, reserved) || xmm_named(word) >= 0 || register_named(word) != NULL)
         bad_line(&s->line, "'%.*s' cannot be a name, since it means something already; expected another", shown(word.len), word.text);
-    return names_get(&s->names, word.text, word.len);
+    need_room(s, NULL, word.len);
+    name = names_get(&s->names, word.text, word.len);
+    name->line = s->line.number;
+    return name;
 }
 
+/* Room is asked for before the call, which is not made in a bad line. */
 struct name *take_result(struct simulator *s)
 {
-    return accept(&s->line, "->") ? take_new_name(s) : NULL;
+    if (!accept(&s->line, "->"))
+        return NULL;
+    struct name *name = take_new_name(s);
+    need_room(s, name, KEYLOCKER_BUFFER_LIMIT);
+    return name;
 }
 
 void give_value(struct simulator *s, struct name *name, const uint8_t *data, size_t len)
 {
     if (name == NULL)
         return;
-    bytes_assign(&name->value, data, len);
+    names_assign(&s->names, name, data, len);
     name->has_value = true;
     name->is_iwkey = false;
     name->line = s->line.number;

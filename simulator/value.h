@@ -16,7 +16,10 @@ void take_bytes_of(struct simulator *s, const char *expected, size_t len, struct
 /* A name to be given a value, old or new. */
 struct name *take_new_name(struct simulator *s);
 
-/* The name behind "->", or none. */
+/* The line is bad where the names would hold too much with as many bytes in this one. */
+void need_room(struct simulator *s, const struct name *name, size_t len);
+
+/* The name behind "->", or none; there is room for any result. */
 struct name *take_result(struct simulator *s);
 
 /* The statement gives the name these bytes, or none. Nothing is done where there is no name. */

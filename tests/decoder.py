@@ -173,12 +173,15 @@ def vectors():
             yield "" if line == "empty" else line
 
 
-def answer(line):
-    """disassemble looks at no more than 32 characters of a line."""
+def answer_string(line):
+    """disassemble looks at no more than 32 characters of a line. None where they are not hexadecimal."""
     line = line[:32]
-    if not re.fullmatch("([0-9a-fA-F]{2})*", line):
-        return "not hexadecimal"
-    return decode(bytes.fromhex(line))
+    return bytes.fromhex(line) if re.fullmatch("([0-9a-fA-F]{2})*", line) else None
+
+
+def answer(line):
+    string = answer_string(line)
+    return "not hexadecimal" if string is None else decode(string)
 
 
 def files():

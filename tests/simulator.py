@@ -1,61 +1,30 @@
 #!/usr/bin/env python3
-"""The simulator, the files that make install installs, and the examples for C: what make test-simulator runs, after make all.
+"""The simulator: what make test-simulator runs, after make all.
 
 Traces' expectations are checked by tests/traces.py over the model in Python, so that a trace that the simulator meets has two witnesses.
 Prints a line for each test, and exits with 1 if one failed.
 """
 
 import contextlib
+import functools
 import io
+import json
 import os
 import pty
 import random
 import re
+import resource
 import shutil
 import subprocess
-import sys
-import tempfile
-import traceback
-from pathlib import Path
 
-import key_locker
+import harness
 import traces
-
-ROOT = Path(__file__).resolve().parent.parent
-PROGRAM = ROOT / "build/keylocker-simulator"
-HEADER = ROOT / "include/keylocker.h"
-EXAMPLE = ROOT / "tests/example.c"
-FIPS_197_C1 = "69c4e0d86a7b0430d8cdb78070b4c55a"
-PROBED_HANDLE = key_locker.wrap(b"\x5a" * 16, b"\x5a" * 32, bytes(16), b"\x2b" * 16).hex()
-# The programs in C, and what they print.
-EXAMPLES = {
-    EXAMPLE: f"{FIPS_197_C1}\n",
-    ROOT / "tests/probe.c": f"Key Locker, not enabled\nKey Locker, enabled; wide forms: yes\n{PROBED_HANDLE}\n",
-}
-STRICT = ["-Wall", "-Wextra", "-pedantic", "-Werror"]
+from harness import HEADER, PROGRAM, ROOT, STRICT, command, must, need
 
 
-class Failed(Exception):
-    pass
-
-
-def need(condition, *what):
-    if not condition:
-        raise Failed(" ".join(map(str, what)))
-
-
-def command(*args, **options):
-    return subprocess.run([str(arg) for arg in args], capture_output=True, text=True, **options)
-
-
-def simulate(text, *options, program=PROGRAM):
+def simulate(text, *options, program=PROGRAM, **others):
     """Runs a trace from standard input."""
-    return command(program, *options, "-", input=text)
-
-
-def must(result, status, what):
-    need(result.returncode == status, what, "exit status", result.returncode, "not", status, "\n", result.stdout[-300:], result.stderr[-600:])
-    return result
+    return command(program, *options, "-", input=text, **others)
 
 
 # ---- what it prints
@@ -118,6 +87,12 @@ def test_random_keyrings(tmp):
 
 
 WORDS = """
+show machine
+-- 924 bytes, all zero: the machine is not powered on; every call but power-on is refused, 1
+machine = 00*923
+show machine
+-- 923 bytes, which are no machine; every call but power-on is refused, 1
+machine = 00*924
 power-on 17
 -- 1 the processor count or the features are not possible
 sleep old
@@ -156,6 +131,7 @@ cpu 0 step f0
 -- 9 the string ends inside an instruction
 cpu 0 set control = 3
 cpu 0 step f0 f3 0f 38 dc c0
+-- lock loadiwkey xmm0, xmm0
 -- 10 #UD: LOCK,
 cpu 0 cpl 3 loadiwkey 00*48
 -- 12 #GP(0): CPL above 0, EAX
@@ -166,19 +142,33 @@ cpu 0 cpl 1 write IA32_COPY_LOCAL_TO_PLATFORM 1
 cpu 0 cpl 3 step f0 67
 -- 9 the string ends inside an instruction
 cpu 0 cpl 3 step f0 67 f3 0f 38 dc c0
+-- lock loadiwkey xmm0, xmm0
 -- 10 #UD: LOCK,
 cpu 0 cpl 3 step 67 f3 0f 38 dc d1
+-- loadiwkey xmm2, xmm1
 -- 12 #GP(0): CPL above 0, EAX
 cpu 0 step 67 f3 0f 38 fa c1
+-- encodekey128 eax, ecx
 -- 12 #GP(0): restriction bits
 cpu 0 set rsp = 0x8000000000000000
 cpu 0 step f3 0f 38 dc 04 24
+-- aesenc128kl xmm0, [rsp]    the handle is at 0x8000000000000000
 -- 13 #SS(0): the address of a handle byte
 cpu 0 set rax = 0x8000000100000
 cpu 0 step 67 f3 0f 38 dc 00
+-- aesenc128kl xmm0, [eax]    the handle is at 0x100000
 -- 14 #PF: a handle byte lies outside memory
 cpu 0 step 67 f3 0f 38 dc 04 24
--- 0 done, ZF 1: RIP is 7 bytes on
+-- aesenc128kl xmm0, [esp]    the handle is at 0x0
+-- 0 done, ZF 1: RIP is 7 bytes on; the handle does not open, its tag does not match (this processor has another IWKey, or the handle was altered)
+memory size 1000
+cpu 0 aesenc128kl 00*48 00*16
+-- 14 #PF: a handle byte lies outside memory
+-- the handle was put at 0xfffc0, into the last 64 bytes of guest memory, and only 1000 bytes of that are lent
+memory size 0x100000
+cpu 0 set rbx = 0x1234
+cpu 0 show rbx
+-- rbx 0x1234
 cpu 0 aesenc128kl at 1048575 00*16
 -- 14 #PF: a handle byte lies outside memory
 cpu 0 encodekey128 22*16 restrict 2 -> opener
@@ -190,9 +180,9 @@ cpu 0 ctr handle 00*16 33 -> one
 cpu 0 ctr handle 00*16 empty
 -- 0 done, ZF 0: the handle opens, there are no bytes
 cpu 0 ctr opener 00*16 33*33
--- 0 done, ZF 1: not a handle of this IWKey, or not for this use; the bytes are unchanged
+-- 0 done, ZF 1: the handle does not open, it may not encrypt; the bytes are unchanged
 cpu 0 ctr handle 00*15 33*33
--- 18 more than 65,536 bytes, a handle neither 48 nor 64, or a counter block not 16
+-- 18 more than 65536 bytes, a handle neither 48 nor 64, or a counter block not 16
 cpu 0 cpl 4 ctr handle 00*15 33*33
 -- 5 CPL above 3, or a zero field
 cpu 0 loadiwkey 11*48 random not-ready
@@ -249,13 +239,11 @@ show keyring
 
 def test_words(tmp):
     """Each answer with its number and in words, below its statement."""
-    lines = WORDS.strip().splitlines()
-    statements = [line for line in lines if not line.startswith("--")]
-    answers = {len([line for line in lines[:i] if not line.startswith("--")]): line[3:] for i, line in enumerate(lines) if line.startswith("--")}
-    printed = must(simulate("\n".join(statements)), 0, "words").stdout
-    for number, words in answers.items():
-        place = f"{number:6}  {statements[number - 1]}\n        {words}"
-        need(place in printed, "not printed:", place)
+    blocks = [block.split("\n-- ") for block in re.split(r"\n(?!-- )", WORDS.strip())]
+    printed = must(simulate("\n".join(statement for statement, *answers in blocks)), 0, "words").stdout
+    for number, (statement, *answers) in enumerate(blocks, 1):
+        lines = [f"{number:6}  {re.escape(statement)}\n", *(f"        {re.escape(words)}.*\n" for words in answers)]
+        need(re.search("^" + "".join(lines), printed, re.M), "not printed:", statement, answers)
 
 
 def test_quiet(tmp):
@@ -278,6 +266,8 @@ def altered(line):
         return found[1] + str(int(found[2], 0) ^ 1)
     if found := re.match(r"(.*\brefused )(\d+)", line):
         return found[1] + str(int(found[2]) % 18 + 1)
+    if found := re.match(r"(.*\brefused )([a-z_]+)", line, re.I):
+        return found[1] + ("ud" if found[2].lower() != "ud" else "nm")
     if re.match(r"expect done", line):
         return "expect refused 6"
     if found := re.match(r"(cpu \S+ expect (?:r(?!ecord)[a-z0-9]+|cpl|control) = )(\w+)", line):
@@ -328,6 +318,123 @@ def test_unmet(tmp):
             need(f"standard input:{number}: not met" in result.stderr and result.stdout.count("NOT MET") == 1, file.name, number, result.stderr)
             count += 1
     need(count > 150, "expectations:", count)
+
+
+BYTES = [
+    ("0011 = 0012", "byte 1 differs: found 11, expected 12"),
+    ("00*20 = 00*3 01*17", "byte 3 differs: found 00000000000000000000000000000000.., expected 01010101010101010101010101010101.."),
+    ("00*20 = 00*4 01*16", "byte 4 differs: found 00000000000000000000000000000000, expected 01010101010101010101010101010101"),
+    ("0011 = 001122", "2 bytes, expected 3; byte 2 differs: found nothing, expected 22"),
+    ("00*48 = 00*2", "48 bytes, expected 2; byte 2 differs: found 00000000000000000000000000000000.., expected nothing"),
+    ("0011 = 0111*8", "2 bytes, expected 16; byte 0 differs: found 0011, expected 01110111011101110111011101110111"),
+]
+
+
+def test_unmet_bytes(tmp):
+    """The first place that differs, and what stands there on both sides."""
+    for expect, found in BYTES:
+        result = must(simulate(f"expect {expect}\n"), 1, expect)
+        need(f"expect {expect}: NOT MET, {found}\n" in result.stdout, result.stdout)
+
+
+# ---- handles that do not open
+
+# The use of a handle of processor 0's IWKey, encoded with some restrictions and then altered, and why it does not open.
+TAG = "its tag does not match (this processor has another IWKey, or the handle was altered)"
+REASONS = [
+    ("no-encrypt", "", "cpu 0 aesenc128kl", "it may not encrypt"),
+    ("no-decrypt", "", "cpu 0 aesdecwide128kl", "it may not decrypt"),
+    ("no-encrypt no-decrypt", "", "cpu 0 aesdec128kl", "it may not decrypt"),
+    ("cpl0-only", "", "cpu 0 cpl 1 aesenc128kl", "it is for CPL 0 and CPL is 1"),
+    ("cpl0-only no-decrypt", "", "cpu 0 cpl 3 aesdec128kl", "it is for CPL 0 and CPL is 3, it may not decrypt"),
+    ("", "", "cpu 0 aesenc256kl", "its key type is 0 and not 1 (AES-256)"),
+    ("", "000000010000000000000000", "cpu 0 aesenc128kl", "its key type is 1 and not 0 (AES-128)"),
+    ("", "000000020000000000000000", "cpu 0 aesencwide256kl", "its key type is 2 and not 1 (AES-256)"),
+    ("", "080000000000000000000000", "cpu 0 aesenc128kl", "reserved bits of its AAD are set"),
+    ("", "000000100000000000000000", "cpu 0 aesenc128kl", "reserved bits of its AAD are set"),
+    ("", "000000000000000000000000000080", "cpu 0 aesenc128kl", "reserved bits of its AAD are set"),
+    ("no-encrypt", "008000", "cpu 0 aesenc128kl", "reserved bits of its AAD are set, it may not encrypt"),
+    ("", "000000000000000000000000000000000001", "cpu 0 aesenc128kl", TAG),
+    ("", "", "cpu 1 aesdec128kl", TAG),
+    ("", "040000", "cpu 0 aesenc128kl", TAG),
+]
+
+
+def string_of(mnemonic):
+    """Of a use with its handle at RBX."""
+    opcode, reg = (0xD8, traces.WIDE.index(mnemonic)) if mnemonic in traces.WIDE else (traces.OPCODES[mnemonic], 0)
+    return bytes([0xF3, 0x0F, 0x38, opcode, 8 * reg | 3]).hex()
+
+
+def test_reasons(tmp):
+    """Of a mnemonic, of the same as a string, and of a counter call where it is one that encrypts."""
+    for restrictions, altered, use, reason in REASONS:
+        cpu, mnemonic = use.rsplit(" ", 1)
+        calls = [
+            (f"{use} h^mask 33*{128 if 'wide' in use else 16}", f"the handle does not open, {reason}; the block"),
+            (f"{cpu} step {string_of(mnemonic)}", f"RIP is 5 bytes on; the handle does not open, {reason}\n"),
+            (f"{cpu} ctr h^mask 00*16 33", f"the handle does not open, {reason}; the bytes are unchanged\n"),
+        ][: 3 if mnemonic == "aesenc128kl" else 2]
+        text = f"power-on 2\n{use[:5]} set rbx = {traces.HANDLE_PLACE}\ncpu 0 loadiwkey 11*48\ncpu 0 encodekey128 22*16 {restrictions} -> h\n"
+        text += f"bytes mask = {altered:0<96}\n" + "".join(f"{call}\nexpect zf 1\n" for call, words in calls)
+        printed = must(simulate(text), 0, text).stdout
+        need(all(f"0 done, ZF 1: {words}" in printed for call, words in calls), reason, "\n", printed)
+
+
+# ---- refusals by name, and --strict
+
+
+def header_refusals():
+    text = re.search("/\\* ---- answers ----.*?/\\* ---- the calls", HEADER.read_text(), re.S)[0]
+    return {name: int(number) for name, number in re.findall(r"^#define (KEYLOCKER_\w+) (\d+)", text, re.M)}
+
+
+def test_refusal_names(tmp):
+    """All those of the header, in any case, with KEYLOCKER_ and without: met by a call that is refused so, and by no other."""
+    names = header_refusals()
+    need(sorted(names.values()) == list(range(19)) and names.pop("KEYLOCKER_DONE") == 0, names)
+    need({name.removeprefix("KEYLOCKER_").lower(): number for name, number in names.items()} == traces.REFUSALS, "tests/traces.py has other names")
+    refused = {1: "sleep old", 12: "power-on 1\ncpu 0 cpl 3 loadiwkey 00*48", 14: "power-on 1\ncpu 0 aesenc128kl at 1048575 00*16", 15: "keyring lookup 00*12"}
+    for number, text in refused.items():
+        for name, meant in names.items():
+            short = name.removeprefix("KEYLOCKER_").lower()
+            result = must(simulate(f"{text}\n" + "".join(f"expect refused {form}\n" for form in [name, name.lower(), short])), int(meant != number), name)
+            need(result.stdout.count(": met\n") == (3 if meant == number else 0), name, result.stdout)
+
+
+# A trace, and how many of its calls are refused, or leave ZF 1, without a word of that.
+STRICTLY = [
+    ("", 0),
+    ("power-on 1\nreset\n", 0),
+    ("sleep old\n", 1),
+    ("sleep old\nexpect refused bad_machine\n", 0),
+    ("sleep old\nexpect machine[0] = 00\n", 1),
+    ("sleep old\nsay Words.\npower-on 1\nexpect done\n", 1),
+    ("sleep old\nsleep old\nexpect refused 1\nreset\n", 2),
+    ("power-on 1\ncpu 0 aesenc128kl 00*48 00*16\n", 1),
+    ("power-on 1\ncpu 0 aesenc128kl 00*48 00*16\nexpect zf 1\n", 0),
+    ("power-on 1\ncpu 0 aesenc128kl 00*48 00*16\nexpect done\n", 1),
+    ("power-on 1\ncpu 0 ctr 00*48 00*16 empty\n", 1),
+    ("power-on 1\ncpu 0 loadiwkey 11*48 random not-ready\nshow machine\n", 1),
+    ("power-on 1\ncpu 0 set rflags = 0x42\ncpu 0 step empty\n", 0),  # ZF does not speak of an idle step
+    ("power-on 1\ncpu 0 set rflags = 0x42\ncpu 0 read 0x990\n", 0),
+    ("keyring records 1\nkeyring lookup 00*12\n", 1),
+]
+
+
+def test_strict(tmp):
+    for text, count in STRICTLY:
+        must(simulate(text), 0, repr(text))
+        for option in ["-s", "--strict"]:
+            result = must(simulate(text, option), int(count > 0), repr(text))
+            need(f"; {count} calls refused or with ZF 1 that no expectation names\n" in result.stdout, result.stdout)
+            first = [n for n, line in enumerate(text.splitlines(), 1) if re.match("sleep|cpu 0 (aes|ctr|load)|keyring lookup", line)][:1]
+            said = f"standard input:{first[0]}: refused or ZF 1, and no expectation names it, the first of {count} calls\n" if count else ""
+            need(result.stderr == said, repr(text), result.stderr)
+    unmet = must(simulate("sleep old\nexpect done\n", "--strict"), 1, "unmet")
+    need(unmet.stderr == "standard input:2: not met, the first of 1 expectations\n", unmet.stderr)
+    for file in traces.TRACES:
+        must(command(PROGRAM, "--strict", file), 0, file.name)
 
 
 # ---- bad lines
@@ -429,8 +536,13 @@ BAD_LINES = [
     ("expect kind 0", "expected a keyring lookup as the last call"),
     ("expect kind 256", "a number from 0 to 255"),
     ("expect", "expected done, refused, zf, value, kind, eax, ebx, ecx, edx or bytes after 'expect'"),
-    ("expect refused 19", "a number from 0 to 18"),
+    ("expect refused 19", "a number from 1 to 18"),
     ("expect refused 0", "0 is 'expect done'"),
+    ("expect refused done", "0 is 'expect done'"),
+    ("expect refused mc", "not 'mc'"),
+    ("expect refused keylocker_", "not 'keylocker_'"),
+    ("expect refused KEYLOCKER_GPF", "not 'GPF'"),
+    ("expect refused", "expected a refusal, a number from 1 to 18 or a name of keylocker.h, such as gp or bad_machine after 'refused'"),
     ("expect zf 2", "a number from 0 to 1"),
     ("expect value 1", "expected a read as the last call"),
     ("expect eax 7", "expected a cpuid as the last call before 'expect eax'"),
@@ -443,7 +555,8 @@ BAD_LINES = [
     ("expect rax = 1", "'rax' belongs to a processor; expected cpu N"),
     ("expect good", "expected = after 'good'"),
     ("show", "expected machine, keyring or bytes after 'show'"),
-    ("cpu 0 show rip", "'rip' is no name given before"),
+    ("cpu 0 show rip rsp", "expected the end of the line, not 'rsp'"),
+    ("show rip", "'rip' is no name given before"),
     ("bytes good = \x01", "a control character (byte 0x01)"),
     ("expect good = \0", "a control character (byte 0x00)"),
 ]
@@ -479,8 +592,16 @@ def test_usage(tmp):
     need("usage" in must(command(PROGRAM, "--help"), 0, "--help").stdout, "--help")
     version = re.search('KEYLOCKER_VERSION "(.*)"', HEADER.read_text())[1]
     need(must(command(PROGRAM, "--version"), 0, "--version").stdout == f"keylocker-simulator {version}\n", "--version")
-    with open("/dev/full", "w") as full:
-        need(subprocess.run([PROGRAM], stdout=full, stderr=subprocess.DEVNULL).returncode == 2, "a full disk is not told")
+
+
+def test_full(tmp):
+    """Output that is lost is told, whatever is printed."""
+    (tmp / "short.trace").write_text("power-on 1\n")
+    for args in [[], ["--json"], ["-q"], [tmp / "short.trace"], ["--print-scenario"], ["--help"], ["-h"], ["--version"]]:
+        with open("/dev/full", "w") as full:
+            result = subprocess.run([PROGRAM, *args], stdout=full, stderr=subprocess.PIPE, text=True)
+        need(result.returncode == 2, args, "exit status", result.returncode)
+        need(result.stderr.startswith("keylocker-simulator: standard output: ") and result.stderr.count("\n") == 1, args, result.stderr)
 
 
 # ---- long traces
@@ -492,6 +613,16 @@ def test_line_ends(tmp):
         result = must(subprocess.run([PROGRAM, "-"], input=form.encode(), capture_output=True), 0, repr(form))
         need(b"6 lines, 1 calls" in result.stdout, result.stdout)
     need("0 lines" in must(simulate(""), 0, "empty").stdout, "an empty trace")
+
+
+def test_mark(tmp):
+    """A byte-order mark is skipped where a trace begins, and nowhere else; UTF-16 is no plain text."""
+    mark = b"\xef\xbb\xbf"
+    result = must(subprocess.run([PROGRAM, "-"], input=mark + b"power-on 1\r\nexpect done", capture_output=True), 0, "a mark")
+    need(b"     1  power-on 1\n" in result.stdout, result.stdout)
+    need(b"0 calls" in must(subprocess.run([PROGRAM, "-"], input=mark, capture_output=True), 0, "a mark alone").stdout, "a mark alone")
+    for text in [mark * 2 + b"power-on 1", b"power-on 1\n" + mark + b"reset", "power-on 1".encode("utf-16")]:
+        must(subprocess.run([PROGRAM, "-"], input=text, capture_output=True), 2, text)
 
 
 def test_long_lines(tmp):
@@ -507,6 +638,18 @@ def test_many_names(tmp):
     """Names from the first to the last are still told apart."""
     lines = [f"bytes name-{n} = {n:08x}" for n in range(100_000)] + [f"expect name-{n} = {n:08x}" for n in range(0, 100_000, 7)]
     must(simulate("\n".join(lines), "-q"), 0, "many names")
+
+
+def test_large_names(tmp):
+    """A few lines cannot fill the memory, and a name that is given again takes no more."""
+    limit = lambda: resource.setrlimit(resource.RLIMIT_AS, (400 << 20, 400 << 20))
+    lines = [f"bytes name-{n} = 00*2097154" for n in range(200)]
+    result = must(simulate("\n".join(lines), "-q", preexec_fn=limit), 2, "large names")
+    need("standard input:128: 2097154 more bytes in a name; expected at most 268435456 in all names together\n" == result.stderr, result.stderr)
+    must(simulate("\n".join(lines[:1] * 400), "-q", preexec_fn=limit), 0, "one name again and again")
+    kept = "power-on 1\n" + "\n".join(lines[:127]) + "\n" + "".join(f"bytes rest-{n} = 00*99000\n" for n in range(21))
+    result = must(simulate(f"{kept}reset\ncpu 0 encodekey128 00*16 -> handle\n", "-q", preexec_fn=limit), 2, "no room for a result")
+    need("standard input:151: 65536 more bytes in a name" in result.stderr and "150 lines" not in result.stdout, result.stderr)
 
 
 def on_terminal(args, out):
@@ -554,26 +697,66 @@ def mutated(rng, lines):
     return "\n".join(some[:6] + [line] + some[7:])
 
 
-def test_damaged(tmp):
-    """Whatever the lines, it ends by itself with 0, 1 or 2; under the sanitizers where the compiler has them."""
-    program = tmp / "simulator"
+@functools.cache
+def sanitized():
+    """The program under the sanitizers, where the compiler has them."""
+    program = ROOT / "build/sanitized-simulator"
     sources = sorted((ROOT / "simulator").glob("*.c"))
     flags = ["-std=c11", "-g", "-O1", "-fsanitize=address,undefined", "-fno-sanitize-recover=all", f"-I{ROOT}/include", f"-I{ROOT}/build/simulator"]
     built = command("gcc", *STRICT, *flags, *sources, ROOT / "build/libkeylocker.a", "-o", program)
-    if built.returncode != 0:
-        need("sanitize" in built.stderr or "asan" in built.stderr, built.stderr)
-        program = PROGRAM
+    need(built.returncode == 0 or "sanitize" in built.stderr or "asan" in built.stderr, built.stderr)
+    return program if built.returncode == 0 else PROGRAM
+
+
+def statements():
+    return [line for file in traces.TRACES for line in file.read_text().splitlines() if line and line[0] != "#"]
+
+
+def test_damaged(tmp):
+    """Whatever the lines, it ends by itself with 0, 1 or 2."""
     for file in traces.TRACES:
-        must(command(program, file), 0, file.name)
-    lines = [line for file in traces.TRACES for line in file.read_text().splitlines() if line and line[0] != "#"]
+        must(command(sanitized(), file), 0, file.name)
+    lines = statements()
     setup = [line for line in lines if line.startswith(("bytes", "iwkey", "power-on 2"))]
     rng, statuses = random.Random(7), set()
     for _ in range(250):
         text = "\n".join(rng.sample(setup, 10)) + "\n" + mutated(rng, lines)
-        result = simulate(text, program=program)
+        result = simulate(text, program=sanitized())
         need(result.returncode in [0, 1, 2] and "ERROR" not in result.stderr, result.returncode, repr(text), result.stderr)
         statuses.add(result.returncode)
     need(2 in statuses, "no damaged line was bad")
+
+
+FRAGMENTS = [b"\0", b"\n", b"\r\n", b"\xef\xbb\xbf", b"\xff", b"#", b" ", b"\t", b"0x", b"*65536", b"[0..", b"^", b"->", b"=", b"18446744073709551616", b"-1",
+             b"record", b"memory", b"cpu 255 ", b"cpl 255 ", b"random not-ready", b"expect ", b"refused KEYLOCKER_", b"ab" * 700]
+
+
+def garbled(rng, data):
+    """Some bytes changed, taken out, doubled, or put in between."""
+    data = bytearray(data)
+    for _ in range(rng.choice([1, 1, 2, 3, 10])):
+        at, length = rng.randrange(len(data) + 1), rng.randrange(40)
+        data[at : at + rng.choice([0, 0, 1, length])] = rng.choice([b"", rng.randbytes(rng.randrange(3)), rng.choice(FRAGMENTS), data[at : at + length]])
+    return bytes(data)
+
+
+def test_fuzz(tmp):
+    """The same for whatever bytes, in every mode; each run says something, and as JSON all of it is JSON. The seed is printed where it fails."""
+    statuses = set()
+    for seed in range(300):
+        rng = random.Random(seed)
+        lines = rng.choice(traces.TRACES).read_bytes().splitlines(keepends=True)
+        at = rng.randrange(len(lines))
+        data = b"".join(lines[:at]) + garbled(rng, b"".join(lines[at : at + 6]))
+        options = rng.choice([[], ["--quiet"], ["--json"], ["--strict"], ["--json", "--strict"]])
+        result = subprocess.run([sanitized(), *options, "-"], input=data, capture_output=True, timeout=60)
+        need(result.returncode in [0, 1, 2] and b"ERROR" not in result.stderr, "seed", seed, result.returncode, result.stderr[-600:])
+        need(result.stdout.endswith(b"\n") or result.stdout == b"", "seed", seed, "prints half a line:", result.stdout[-100:])
+        need((result.stderr == b"") == (result.returncode == 0) and result.stderr.count(b"\n") <= 2, "seed", seed, result.stderr)
+        if "--json" in options:
+            need(all(isinstance(json.loads(line), dict) for line in result.stdout.decode().splitlines()), "seed", seed)
+        statuses.add(result.returncode)
+    need(statuses == {0, 1, 2}, "exit statuses:", statuses)
 
 
 def test_valgrind(tmp):
@@ -595,128 +778,5 @@ def test_valgrind(tmp):
         must(command(*valgrind, PROGRAM, *args), status, args)
 
 
-# ---- for C users
-
-
-def test_header(tmp):
-    """Alone, in C and in C++; and its numbers are the scope's."""
-    (tmp / "numbers.c").write_text(
-        "#include <keylocker.h>\n"
-        + "".join(f"_Static_assert({name} == {number}, \"{name}\");\n" for name, number in NUMBERS.items())
-        + "int main(void) { return 0; }\n"
-    )
-    must(command("gcc", "-std=c11", *STRICT, f"-I{ROOT}/include", "-c", tmp / "numbers.c", "-o", tmp / "numbers.o"), 0, "numbers")
-    must(command("gcc", "-std=c11", *STRICT, "-fsyntax-only", "-x", "c", HEADER), 0, "header as C11")
-    if shutil.which("g++"):
-        must(command("g++", "-std=c++17", *STRICT, "-fsyntax-only", "-x", "c++", HEADER), 0, "header as C++17")
-        for example, printed in EXAMPLES.items():
-            linked = ["g++", "-std=c++17", *STRICT, f"-I{ROOT}/include", "-x", "c++", example, "-x", "none", ROOT / "build/libkeylocker.a", "-o", tmp / "cxx"]
-            must(command(*linked), 0, f"{example.name} as C++17")
-            need(must(command(tmp / "cxx"), 0, example.name).stdout == printed, example.name, "in C++ prints something else")
-
-
-NUMBERS = {
-    "KEYLOCKER_MACHINE_SIZE": 924,
-    "KEYLOCKER_CPU_SIZE": 408,
-    "KEYLOCKER_CPU_REGISTERS": 256,
-    "KEYLOCKER_CPU_RIP": 384,
-    "KEYLOCKER_CPU_RFLAGS": 392,
-    "KEYLOCKER_CPU_CPL": 400,
-    "KEYLOCKER_CPU_CONTROL": 401,
-    "KEYLOCKER_CPU_ZEROS": 402,
-    "KEYLOCKER_ENTRY_SIZE": 16 + 32 + 3,
-    "KEYLOCKER_SLOT_SIZE": 1 + 16 + 32 + 2,
-    "KEYLOCKER_MACHINE_BACKUP": 2 + 16 * 51,
-    "KEYLOCKER_MACHINE_STORE": 2 + 17 * 51,
-    "KEYLOCKER_MACHINE_CONSUMED": 923,
-    "KEYLOCKER_FEATURE_ALL": 0x3F,
-    "KEYLOCKER_PF": 14,
-    "KEYLOCKER_BAD_KEYRING": 15,
-    "KEYLOCKER_NO_LABEL": 16,
-    "KEYLOCKER_KEYRING_FULL": 17,
-    "KEYLOCKER_BAD_SIZE": 18,
-    "KEYLOCKER_COUNTER_SIZE": 16,
-    "KEYLOCKER_BUFFER_LIMIT": 65_536,
-    "KEYLOCKER_KEYRING_LIMIT": 819 * 80,
-    "KEYLOCKER_KEYRING_RECORD": 80,
-    "KEYLOCKER_KEYRING_HEADS": 16,
-    "KEYLOCKER_LABEL_SIZE": 12,
-    "KEYLOCKER_RECORD_NEXT": 0,
-    "KEYLOCKER_RECORD_KIND": 2,
-    "KEYLOCKER_RECORD_ZERO": 3,
-    "KEYLOCKER_RECORD_LABEL": 4,
-    "KEYLOCKER_RECORD_HANDLE": 16,
-    "KEYLOCKER_KIND_128": 0,
-    "KEYLOCKER_KIND_256": 1,
-    "KEYLOCKER_MEMORY_LIMIT": 1_048_576,
-    "KEYLOCKER_RFLAGS_OF": 1 << 11,
-    "KEYLOCKER_BACKUP_CONSUMED": 1 << 3,
-    # 343965-001US, chapter 2
-    "KEYLOCKER_CPUID_7_ECX_KL": 1 << 23,
-    "KEYLOCKER_CPUID_19_EAX_CPL0_ONLY": 1 << 0,
-    "KEYLOCKER_CPUID_19_EAX_NO_ENCRYPT": 1 << 1,
-    "KEYLOCKER_CPUID_19_EAX_NO_DECRYPT": 1 << 2,
-    "KEYLOCKER_CPUID_19_EBX_AESKLE": 1 << 0,
-    "KEYLOCKER_CPUID_19_EBX_WIDE_KL": 1 << 2,
-    "KEYLOCKER_CPUID_19_EBX_BACKUP": 1 << 4,
-    "KEYLOCKER_CPUID_19_ECX_NO_BACKUP": 1 << 0,
-    "KEYLOCKER_CPUID_19_ECX_RANDOM": 1 << 1,
-}
-
-
-def flags_of(pc, prefix):
-    """The flags for compiling and linking, as if installed where prefix is."""
-    if shutil.which("pkg-config"):
-        environment = os.environ | {"PKG_CONFIG_PATH": str(pc.parent), "PKG_CONFIG_LIBDIR": ""}
-        flags = command("pkg-config", f"--define-variable=prefix={prefix}", "--cflags", "--libs", "keylocker", env=environment)
-        return must(flags, 0, "pkg-config").stdout.split()
-    text = pc.read_text()
-    values = dict(re.findall(r"^(\w+)=(.*)$", text, re.M)) | {"prefix": str(prefix)}
-    flags = " ".join(re.findall(r"^(?:Cflags|Libs): (.*)$", text, re.M))
-    while "${" in flags:
-        flags = re.sub(r"\$\{(\w+)\}", lambda found: values[found[1]], flags)
-    return sorted(flags.split(), key=lambda flag: flag.startswith("-l"))
-
-
-def test_install(tmp):
-    """The installed files, with a program that is compiled by the flags of the installed .pc file."""
-    must(command("make", "-C", ROOT, "install", f"DESTDIR={tmp}/stage", "PREFIX=/opt/kl"), 0, "make install")
-    prefix = tmp / "stage/opt/kl"
-    files = {str(file.relative_to(tmp / "stage")): oct(file.stat().st_mode & 0o777) for file in (tmp / "stage").rglob("*") if file.is_file()}
-    wanted = {"lib/libkeylocker.a": "0o644", "lib/pkgconfig/keylocker.pc": "0o644", "include/keylocker.h": "0o644", "bin/keylocker-simulator": "0o755"}
-    need(files == {f"opt/kl/{name}": mode for name, mode in wanted.items()}, files)
-    pc = prefix / "lib/pkgconfig/keylocker.pc"
-    version = re.search('KEYLOCKER_VERSION "(.*)"', HEADER.read_text())[1]
-    need("prefix=/opt/kl\n" in pc.read_text() and f"\nVersion: {version}\n" in pc.read_text(), pc.read_text())
-    flags = flags_of(pc, prefix)
-    for example, printed in EXAMPLES.items():
-        shutil.copy(example, tmp)
-        must(command("gcc", "-std=c11", *STRICT, example.name, "-o", "example", *flags, cwd=tmp), 0, flags)
-        need(must(command(tmp / "example"), 0, example.name).stdout == printed, example.name, "prints something else")
-    need(must(command(prefix / "bin/keylocker-simulator"), 0, "installed simulator").stdout == command(PROGRAM).stdout, "installed simulator")
-    must(command("make", "-C", ROOT, "all"), 0, "make all")
-    need("prefix=/usr/local\n" in (ROOT / "build/keylocker.pc").read_text(), "PREFIX of the last make install stays")
-
-
-def test_readme(tmp):
-    """The program in C that README shows is tests/example.c."""
-    shown = re.findall(r"```c\n(.*?)```", (ROOT / "README.md").read_text(), re.S)
-    need(shown == [EXAMPLE.read_text()], "README does not show tests/example.c, or another program")
-
-
-def main():
-    failed = 0
-    for name, test in [(name, test) for name, test in globals().items() if name.startswith("test_")]:
-        with tempfile.TemporaryDirectory() as tmp:
-            try:
-                skipped = test(Path(tmp))
-                print(f"{name[5:]}: {skipped or 'passed'}", flush=True)
-            except Exception as error:  # the other tests still tell something
-                failed += 1
-                print(f"{name[5:]}: FAILED: {error if isinstance(error, Failed) else traceback.format_exc()}", flush=True)
-    if failed:
-        sys.exit(f"tests/simulator.py: {failed} tests failed")
-
-
 if __name__ == "__main__":
-    main()
+    harness.main(__file__, globals())

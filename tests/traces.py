@@ -35,6 +35,15 @@ GENERAL = ["rax", "rcx", "rdx", "rbx", "rsp", "rbp", "rsi", "rdi"] + [f"r{n}" fo
 REGISTERS = {name: (256 + 8 * n, 8) for n, name in enumerate(GENERAL)} | {"rip": (384, 8), "rflags": (392, 8), "cpl": (400, 1), "control": (401, 1)}
 XMM = {f"xmm{n}": n for n in range(16)}
 CPUID_REGISTERS = ["eax", "ebx", "ecx", "edx"]
+# Document 01, "Turned back", and 15 to 18 of document 02, by the names of the header.
+REFUSALS = {
+    name: number
+    for number, name in enumerate(
+        "bad_machine bad_code bad_processor bad_cpu_size bad_cpu bad_memory bad_random bad_byte string_ends ud nm gp ss pf "
+        "bad_keyring no_label keyring_full bad_size".split(),
+        1,
+    )
+}
 STOPS = ["->", "=", "random", "encryption", "no-backup", "cpl0-only", "no-encrypt", "no-decrypt", "restrict"]
 USES = {f"aes{way}{wide}{size}kl": None for way in ["enc", "dec"] for wide in ["", "wide"] for size in [128, 256]}
 OPCODES = {"aesenc128kl": 0xDC, "aesdec128kl": 0xDD, "aesenc256kl": 0xDE, "aesdec256kl": 0xDF, "encodekey128": 0xFA, "encodekey256": 0xFB, "loadiwkey": 0xDC}
@@ -217,15 +226,21 @@ class Trace:
         self.names[name] = integrity + self.bytes(32)
 
     def show(self):
-        if self.words:
+        if self.words and self.cpu is not None and self.words[0].lower() in REGISTERS:
+            self.words.pop(0)
+        elif self.words:
             self.bytes()
+
+    def refusal(self):
+        word = self.words.pop(0).lower()
+        return REFUSALS[word.removeprefix("keylocker_")] if word[0].isalpha() else number(word)
 
     def expect(self):
         first = self.words[0].lower()
         if self.accept("done"):
             found, wanted = self.number, 0
         elif self.accept("refused"):
-            found, wanted = self.number, self.take_number()
+            found, wanted = self.number, self.refusal()
         elif self.accept("zf"):
             found, wanted = self.zf, self.take_number()
         elif self.accept("value"):

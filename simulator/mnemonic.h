@@ -1,0 +1,23 @@
+/* The eleven instructions: their names, and what opcode and ModRM tell them apart. */
+#ifndef MNEMONIC_H
+#define MNEMONIC_H
+
+#include "simulator.h"
+
+struct mnemonic {
+    const char *name;
+    enum call call;
+    uint8_t opcode;
+    int reg;     /* the reg field of ModRM that belongs to the opcode, or -1 */
+    bool memory; /* the handle's place is an operand */
+    size_t key_size;
+    bool wide, encrypts;
+};
+
+/* None for other words. */
+const struct mnemonic *mnemonic_named(struct word word);
+
+/* None where no instruction has them. */
+const struct mnemonic *mnemonic_of(uint8_t opcode, unsigned reg, bool memory);
+
+#endif
