@@ -1,5 +1,8 @@
-# make           build what make install installs, in build/: the library, its pkg-config file and the simulator
-# make install   install them and the header below $(DESTDIR)$(PREFIX); PREFIX is /usr/local unless given
+# make           prove the library, with a line for each crate, and build what make install installs, in build/: library, simulator and manual pages
+# make LIBKEYLOCKER=FILE ..  take FILE, a libkeylocker.a that was made elsewhere, in place of one proved here: without the Rattle kit
+# make install   install them with the header, files for pkg-config and CMake, documents and examples, below $(DESTDIR)$(PREFIX); PREFIX is /usr/local
+#                unless given, and LIBDIR, INCLUDEDIR, BINDIR, MANDIR and DOCDIR are folders below it unless given
+# make uninstall remove what make install, given the same folders, has installed
 # make demo      run the simulator's built-in scenario
 # make bench     measure the proved libraries against AES, key wrapping, the cryptography of whole calls and the keyring in C, and the stack that each
 #                call needs
@@ -7,15 +10,23 @@
 # make test      all tests, as tests/run.sh has them
 # make test-decoder  compare the proved decoder with GNU objdump, on about two million strings
 # make test-machine  compare the proved machine with the model in Python, on 20,000 random calls
-# make test-host, test-valgrind, test-faults, test-stack  compare the C library with a model in C, and run it on a small stack; tests/host/rules.mk says how
+# make test-host, test-guarded, test-valgrind, test-faults, test-stack  compare the C library with a model in C, between pages that cannot be touched, and
+#                on a small stack, which is then searched for keys; tests/host/rules.mk says how
 # make test-constants  which tables stand in the library, and how many bytes of read-only data
-# make test-simulator  the simulator on traces that the model in Python checks, the installed files, and the examples for C; counter calls through it
-#                against NIST's vectors and OpenSSL
+# make test-simulator  the simulator on traces that the model in Python checks, over pipes and at a terminal, as JSON; counter calls through it against
+#                NIST's vectors and OpenSSL
+# make test-install  the header, what is installed and removed, with programs that use it, the manual pages, the examples, and builds without the kit
 # make clean     remove build/; what rt made is in target/
 
 CC = gcc
 CFLAGS = -std=c11 -Wall -Wextra -O2
 PREFIX = /usr/local
+LIBDIR = $(PREFIX)/lib
+INCLUDEDIR = $(PREFIX)/include
+BINDIR = $(PREFIX)/bin
+MANDIR = $(PREFIX)/share/man
+DOCDIR = $(PREFIX)/share/doc/keylocker
+LIBKEYLOCKER = target/staticlib/libkeylocker.a
 
 # all that the libraries are proved and compiled from
 SOURCES := crates.txt $(shell find crates -name '*.rt' -o -name '*.antt')
@@ -28,23 +39,20 @@ KEYWRAP = keywrap $(WRAPPING)
 KEYLOCKER = keylocker $(WRAPPING)
 KEYRING = keyring keyring_plain measure
 
-.PHONY: all install demo bench examples test test-decoder test-machine test-constants test-simulator clean always
+.PHONY: all install uninstall demo bench examples test test-decoder test-machine test-constants test-simulator test-install clean always
+.DELETE_ON_ERROR:
 
-all: build/libkeylocker.a build/keylocker.pc build/keylocker-simulator
+all: build/libkeylocker.a build/keylocker-simulator build/keylocker-simulator.1 build/keylocker-traces.5
 
 # ---- for C users
 
 VERSION := $(shell sed -n 's/^.define KEYLOCKER_VERSION "\(.*\)"/\1/p' include/keylocker.h)
 SIMULATOR = $(patsubst simulator/%.c,build/simulator/%.o,$(wildcard simulator/*.c))
 
-build/libkeylocker.a: target/staticlib/libkeylocker.a
+# always: LIBKEYLOCKER may be another file than last time; where it has the same bytes, what was linked with it stays
+build/libkeylocker.a: $(LIBKEYLOCKER) always
 	@mkdir -p build
-	cp $< $@
-
-# always: PREFIX may be another one than last time
-build/keylocker.pc: include/keylocker.pc.in always
-	@mkdir -p build
-	@sed -e 's|@PREFIX@|$(PREFIX)|' -e 's|@VERSION@|$(VERSION)|' $< >$@
+	@cmp -s $(LIBKEYLOCKER) $@ || cp $(LIBKEYLOCKER) $@
 
 build/keylocker-simulator: $(SIMULATOR) build/libkeylocker.a
 	$(CC) $(CFLAGS) -o $@ $^
@@ -58,12 +66,42 @@ build/simulator/scenario.inc: simulator/scenario.trace
 	@mkdir -p build/simulator
 	od -An -v -tx1 $< | sed 's/ \(..\)/0x\1,/g' >$@
 
+build/keylocker-simulator.1: build/keylocker-simulator tools/manual.py
+	./build/keylocker-simulator --help | python3 tools/manual.py simulator $(VERSION) >$@
+
+build/keylocker-traces.5: simulator/TRACES.md tools/manual.py include/keylocker.h
+	@mkdir -p build
+	python3 tools/manual.py traces $(VERSION) <$< >$@
+
+# What is installed, with its mode and folder, by which make uninstall removes it, too. $1 is done with files, $2 with templates.
+define each_installed
+$(call $1,644,$(LIBDIR),build/libkeylocker.a)
+$(call $1,644,$(INCLUDEDIR),include/keylocker.h)
+$(call $1,755,$(BINDIR),build/keylocker-simulator)
+$(call $1,644,$(MANDIR)/man1,build/keylocker-simulator.1)
+$(call $1,644,$(MANDIR)/man5,build/keylocker-traces.5)
+$(call $1,644,$(DOCDIR),simulator/TRACES.md docs/THREATS.md)
+$(call $1,644,$(DOCDIR)/examples,$(wildcard examples/*.c examples/*.py))
+$(call $2,644,$(LIBDIR)/pkgconfig,include/keylocker.pc.in)
+$(call $2,644,$(LIBDIR)/cmake/keylocker,include/keylocker-config.cmake.in)
+$(call $2,644,$(LIBDIR)/cmake/keylocker,include/keylocker-config-version.cmake.in)
+endef
+
+# pkg-config can move what lies below its prefix
+FILL = sed -e 's|@PREFIX@|$(PREFIX)|; s|@LIBDIR@|$(LIBDIR)|; s|@INCLUDEDIR@|$(INCLUDEDIR)|; s|@VERSION@|$(VERSION)|' -e 's|dir=$(PREFIX)/|dir=$${prefix}/|'
+
+installed = "$(DESTDIR)$1/$(notdir $(2:.in=))"
+put = install -d "$(DESTDIR)$2" && install -m $1 $3 "$(DESTDIR)$2/"
+fill = install -d "$(DESTDIR)$2" && $(FILL) $3 >$(call installed,$2,$3) && chmod $1 $(call installed,$2,$3)
+drop = rm -f $(foreach file,$3,$(call installed,$2,$(file)))
+
 install: all
-	install -d "$(DESTDIR)$(PREFIX)/lib/pkgconfig" "$(DESTDIR)$(PREFIX)/include" "$(DESTDIR)$(PREFIX)/bin"
-	install -m 644 build/libkeylocker.a "$(DESTDIR)$(PREFIX)/lib/"
-	install -m 644 build/keylocker.pc "$(DESTDIR)$(PREFIX)/lib/pkgconfig/"
-	install -m 644 include/keylocker.h "$(DESTDIR)$(PREFIX)/include/"
-	install -m 755 build/keylocker-simulator "$(DESTDIR)$(PREFIX)/bin/"
+	$(call each_installed,put,fill)
+
+# of the folders only those that no other package has files in
+uninstall:
+	$(call each_installed,drop,drop)
+	rmdir "$(DESTDIR)$(DOCDIR)/examples" "$(DESTDIR)$(DOCDIR)" "$(DESTDIR)$(LIBDIR)/cmake/keylocker" 2>/dev/null || true
 
 demo: build/keylocker-simulator
 	@./build/keylocker-simulator
@@ -74,7 +112,11 @@ test-constants: build/libkeylocker.a
 test-simulator: all
 	python3 tests/traces.py
 	python3 tests/simulator.py
+	python3 tests/dialogue.py
 	python3 tests/counter.py
+
+test-install: all
+	python3 tests/install.py
 
 # ---- measuring
 
@@ -100,8 +142,10 @@ build/%.o: bench/%.c $(HEADERS) include/keylocker.h
 	@mkdir -p build
 	$(CC) $(CFLAGS) -Iinclude -c -o $@ $<
 
+# make -O would hold the lines of a recipe back to its end, but not of one with +; that would be run with -n, -q and -t, too
+LETTERS = $(filter-out --%,$(firstword -$(MAKEFLAGS)))
 target/staticlib/lib%.a: $(SOURCES)
-	rt staticlib $*
+	@$(if $(strip $(foreach letter,n q t,$(findstring $(letter),$(LETTERS)))),,+)tools/prove.sh $*
 	@touch $@
 
 # rt keeps what a program wrote when it last ran

@@ -10,7 +10,7 @@ static uint8_t keyring[8 * KEYLOCKER_KEYRING_RECORD]; /* of zeros it is empty, w
 static int step(const uint8_t *string, size_t len)
 {
     uint32_t answer = keylocker_step(machine, sizeof machine, 0, cpu, sizeof cpu, memory, sizeof memory, NULL, 0, string, len);
-    return answer == KEYLOCKER_DONE && !(cpu[KEYLOCKER_CPU_RFLAGS] & KEYLOCKER_RFLAGS_ZF);
+    return answer == KEYLOCKER_DONE && !keylocker_get_zf(cpu);
 }
 
 int main(void)

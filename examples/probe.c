@@ -22,7 +22,7 @@ static int probe(void)
 static int step(const uint8_t *string, size_t len)
 {
     uint32_t answer = keylocker_step(machine, sizeof machine, 0, cpu, sizeof cpu, NULL, 0, NULL, 0, string, len);
-    return answer == KEYLOCKER_DONE && !(cpu[KEYLOCKER_CPU_RFLAGS] & KEYLOCKER_RFLAGS_ZF);
+    return answer == KEYLOCKER_DONE && !keylocker_get_zf(cpu);
 }
 
 int main(void)
@@ -36,7 +36,7 @@ int main(void)
     if (probe())
         return 1;
 
-    cpu[KEYLOCKER_CPU_CONTROL] |= KEYLOCKER_CONTROL_CR4_KL; /* the operating system's part: CR4.KL, and the IWKey as in example.c */
+    cpu[KEYLOCKER_CPU_CONTROL] |= KEYLOCKER_CONTROL_CR4_KL; /* the operating system's part: CR4.KL, and the IWKey as in seal.c */
     memset(xmm0, 0x5A, 3 * 16);
     if (!step(loadiwkey, sizeof loadiwkey))
         return 1;
