@@ -60,6 +60,21 @@ void bytes_free(struct bytes *b)
     *b = (struct bytes){0};
 }
 
+void put_hex(const uint8_t *data, size_t len)
+{
+    static const char digits[] = "0123456789abcdef";
+    enum { SOME = 128 };
+    char text[2 * SOME];
+    for (size_t i = 0; i < len; i += SOME) {
+        size_t some = len - i < SOME ? len - i : SOME;
+        for (size_t j = 0; j < some; j++) {
+            text[2 * j] = digits[data[i + j] >> 4];
+            text[2 * j + 1] = digits[data[i + j] & 15];
+        }
+        fwrite(text, 1, 2 * some, stdout);
+    }
+}
+
 /* A table, because the digits of keys and blocks are what a branch predicts worst. Values are one too large, so that 0 is "none". */
 static const uint8_t digit_values[256] = {
     ['0'] = 1,  ['1'] = 2,  ['2'] = 3,  ['3'] = 4,  ['4'] = 5,  ['5'] = 6,  ['6'] = 7,  ['7'] = 8,  ['8'] = 9,  ['9'] = 10, ['a'] = 11,

@@ -26,6 +26,9 @@ void bytes_free(struct bytes *b);
 /* Text behind what there is, as by vprintf, without a NUL. */
 void bytes_print(struct bytes *b, const char *format, va_list arguments) __attribute__((format(printf, 2, 0)));
 
+/* In hexadecimal, to standard output. */
+void put_hex(const uint8_t *data, size_t len);
+
 /* The value of a hexadecimal digit, -1 for another character. */
 int hex_digit(char c);
 

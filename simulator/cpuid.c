@@ -2,7 +2,7 @@
 
 #include <inttypes.h>
 
-#include "print.h"
+#include "answer.h"
 
 const char *const cpuid_names[] = {[EAX] = "eax", [EBX] = "ebx", [ECX] = "ecx", [EDX] = "edx"};
 

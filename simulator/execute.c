@@ -3,6 +3,7 @@
 #include <inttypes.h>
 #include <string.h>
 
+#include "answer.h"
 #include "decode.h"
 #include "print.h"
 

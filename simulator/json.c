@@ -5,7 +5,6 @@
 #include <string.h>
 
 #include "cpuid.h"
-#include "print.h"
 #include "refusal.h"
 
 /* ---- values */

@@ -14,7 +14,7 @@
 #include "progress.h"
 #include "reader.h"
 #include "scenario.h"
-#include "simulator.h"
+#include "statement.h"
 
 static const char help[] =
     "usage: keylocker-simulator [--quiet] [--strict] [--json] [TRACE]\n"

@@ -4,6 +4,7 @@
 #include <stdio.h>
 #include <string.h>
 
+#include "answer.h"
 #include "json.h"
 #include "refusal.h"
 
@@ -57,63 +58,7 @@ void say(struct simulator *s)
     putchar('\n');
 }
 
-/* ---- answers */
-
-static bool silent(const struct simulator *s)
-{
-    return s->options.quiet && !s->options.json;
-}
-
-static void add_arguments(struct simulator *s, const char *format, va_list arguments)
-{
-    if (!silent(s))
-        bytes_print(&s->answer, format, arguments);
-}
-
-void add_answer(struct simulator *s, const char *format, ...)
-{
-    va_list arguments;
-    va_start(arguments, format);
-    add_arguments(s, format, arguments);
-    va_end(arguments);
-}
-
-void end_answer(struct simulator *s)
-{
-    if (silent(s))
-        return;
-    if (s->options.json) {
-        add_answer(s, "\n");
-        return;
-    }
-    fputs("        ", stdout);
-    fwrite(s->answer.data, 1, s->answer.len, stdout);
-    putchar('\n');
-    s->answer.len = 0;
-}
-
-void print_answer(struct simulator *s, const char *format, ...)
-{
-    va_list arguments;
-    va_start(arguments, format);
-    add_arguments(s, format, arguments);
-    va_end(arguments);
-    end_answer(s);
-}
-
-void put_hex(const uint8_t *data, size_t len)
-{
-    static const char digits[] = "0123456789abcdef";
-    char text[2 * CUT];
-    for (size_t i = 0; i < len; i += CUT) {
-        size_t some = len - i < CUT ? len - i : CUT;
-        for (size_t j = 0; j < some; j++) {
-            text[2 * j] = digits[data[i + j] >> 4];
-            text[2 * j + 1] = digits[data[i + j] & 15];
-        }
-        fwrite(text, 1, 2 * some, stdout);
-    }
-}
+/* ---- results */
 
 /* Many are cut short. */
 static void put_hex_cut(const uint8_t *data, size_t len)
@@ -191,12 +136,6 @@ void print_unmet(struct simulator *s, const char *format, ...)
 }
 
 /* ---- calls */
-
-bool wrote_zf(const struct last *last)
-{
-    return last->answer == KEYLOCKER_DONE &&
-           (last->call == CALL_LOAD || last->call == CALL_ENCODE || last->call == CALL_USE || last->call == CALL_UNKNOWN_STEP || last->call == CALL_CTR);
-}
 
 void count_unexpected(struct simulator *s)
 {

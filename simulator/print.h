@@ -10,18 +10,8 @@ void print_statement(struct simulator *s);
 /* The same for a statement that prints text even when quiet, behind it. */
 void print_shown_statement(struct simulator *s);
 
-/* A line below the statement, put together by several of add_answer, as by printf, and ended. JSON has it as the call's text. Nothing when quiet. */
-void add_answer(struct simulator *s, const char *format, ...) __attribute__((format(printf, 2, 3)));
-void end_answer(struct simulator *s);
-
-/* Such a line at once. */
-void print_answer(struct simulator *s, const char *format, ...) __attribute__((format(printf, 2, 3)));
-
 /* The call's result: the name that the bytes are given, or the text where there is none, and the bytes. */
 void print_result(struct simulator *s, const char *text, const struct name *name, const uint8_t *data, size_t len);
-
-/* Bytes in hexadecimal, whether or not quiet. */
-void put_hex(const uint8_t *data, size_t len);
 
 /* The name that the trace gave the IWKey, "all zero", or its bytes, which take the room. */
 enum { IWKEY_TEXT = 128 };
@@ -36,9 +26,6 @@ bool answered(struct simulator *s, enum call call, uint32_t answer);
 
 /* Behind a statement that made a call, when all of it is said. */
 void end_call(struct simulator *s);
-
-/* Whether the call left ZF to be looked at. */
-bool wrote_zf(const struct last *last);
 
 /* Counts the last call where it was refused, or left ZF 1, and no expectation spoke of it: before the next one, and at the end. */
 void count_unexpected(struct simulator *s);

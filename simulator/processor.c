@@ -3,6 +3,7 @@
 #include <inttypes.h>
 #include <string.h>
 
+#include "answer.h"
 #include "cpuid.h"
 #include "define.h"
 #include "execute.h"

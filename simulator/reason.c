@@ -2,7 +2,7 @@
 
 #include "execute.h"
 #include "mnemonic.h"
-#include "print.h"
+#include "answer.h"
 
 /* The AAD, 343965-001US A.3.1: restrictions are bits 2:0, the key type bits 27:24; the others are reserved. */
 enum { AAD_SIZE = 16, RESTRICTIONS = 7, TYPE_BYTE = 3, TYPE = 15 };

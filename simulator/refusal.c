@@ -1,6 +1,6 @@
 #include "refusal.h"
 
-#include "print.h"
+#include "answer.h"
 
 static const struct choice answers[] = {
     {"done", KEYLOCKER_DONE},

@@ -87,11 +87,11 @@ struct simulator {
 void simulator_init(struct simulator *s, const char *file, const struct options *options);
 void simulator_free(struct simulator *s);
 
-/* Runs one line. */
-void run_line(struct simulator *s, const char *text, size_t len);
-
 /* The processor that the statement is for. */
 struct cpu *this_cpu(struct simulator *s);
+
+/* Whether the call left ZF to be looked at. */
+bool wrote_zf(const struct last *last);
 
 /* The records as at power-on: CPL 0, CR4.KL and CR4.OSFXSR set, the rest zero but bit 1 of RFLAGS, which is always 1. */
 void fresh_cpus(struct simulator *s);

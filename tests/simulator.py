@@ -681,6 +681,19 @@ def test_progress(tmp):
     need((result.stdout, result.stderr) == (summary, ""), "progress without a terminal:", result.stderr[:200])
 
 
+# ---- the code
+
+
+def test_no_circles(tmp):
+    """No file of the program needs another that needs it in turn."""
+    sources = {file.stem: file.read_text() + header.read_text() for file in (ROOT / "simulator").glob("*.c") if (header := file.with_suffix(".h")).exists()}
+    uses = {name: set(re.findall(r'#include "(\w+)\.h"', text)) & sources.keys() - {name} for name, text in sources.items()}
+    need(len(uses) > 20, uses)
+    while leaves := [name for name, used in uses.items() if not used]:
+        uses = {name: used - set(leaves) for name, used in uses.items() if name not in leaves}
+    need(not uses, "circles among", *uses)
+
+
 # ---- memory
 
 
