@@ -10,6 +10,8 @@ import json
 import subprocess
 import sys
 
+ENDED = "coprocess.py: the simulator has ended"
+
 # NIST SP 800-38A, F.2.1
 KEY = "2b7e151628aed2a6abf7158809cf4f3c"
 IV = "000102030405060708090a0b0c0d0e0f"
@@ -24,7 +26,7 @@ BLOCKS = [
 def read(simulator):
     """The next object; an empty line is the end of a simulator that has said on standard error what was wrong."""
     line = simulator.stdout.readline()
-    return json.loads(line) if line else sys.exit("coprocess.py: the simulator has ended")
+    return json.loads(line) if line else sys.exit(ENDED)
 
 
 def call(simulator, statement):
@@ -40,8 +42,7 @@ def xor(left, right):
     return f"{int(left, 16) ^ int(right, 16):032x}"
 
 
-def main():
-    program = sys.argv[1] if len(sys.argv) > 1 else "keylocker-simulator"
+def seal(program):
     with subprocess.Popen([program, "--json", "-"], stdin=subprocess.PIPE, stdout=subprocess.PIPE, text=True) as simulator:
         call(simulator, "power-on 1")
         call(simulator, "cpu 0 loadiwkey 5a*48")
@@ -55,6 +56,13 @@ def main():
     if simulator.returncode != 0:
         sys.exit(f"coprocess.py: the simulator ended with status {simulator.returncode}")
     print(f"{summary['calls']} calls, {summary['refused']} of them refused")
+
+
+def main():
+    try:
+        seal(sys.argv[1] if len(sys.argv) > 1 else "keylocker-simulator")
+    except BrokenPipeError:  # it was written to when it had ended already
+        sys.exit(ENDED)
 
 
 if __name__ == "__main__":

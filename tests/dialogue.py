@@ -399,6 +399,12 @@ def test_json_text(tmp):
                 need(item["text"] and all(f"        {line}\n" in printed for line in item["text"].splitlines()), file.name, item)
 
 
+def test_json_example(tmp):
+    """What the description of the language shows."""
+    shown = re.findall(r"```json\n(.*?)```", traces.LANGUAGE.read_text(), re.S)
+    need(len(shown) == 1 and shown[0] in command(PROGRAM, "--json", "-", input=traces.language_examples()[0]).stdout, "TRACES.md shows other JSON")
+
+
 def test_json_bytes(tmp):
     """Whatever bytes a trace has, what is printed is UTF-8 and JSON."""
     for said in [b"\xff\xfe", b"a\x80b", b"\xc0\xaf", b"\xed\xa0\x80", b"\xf4\x90\x80\x80", b"\xe2\x82", b"\x7f", "\u20ac \U0010ffff".encode()]:
