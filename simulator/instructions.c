@@ -83,7 +83,7 @@ static void run_encode(struct simulator *s, const struct mnemonic *m)
         take_value_away(s, result);
         return;
     }
-    size_t len = 32 + m->key_size;
+    size_t len = m->key_size == 32 ? KEYLOCKER_HANDLE_256_SIZE : KEYLOCKER_HANDLE_128_SIZE;
     unsigned eax = (unsigned)keylocker_get_register(cpu->record, KEYLOCKER_RAX);
     print_answer(s, "0 done: the IWKey that it is encoded under has key source %u, NoBackup %u", eax >> 1, eax & 1);
     print_result(s, "handle", result, xmm_of(cpu, 0), len);
@@ -125,8 +125,9 @@ static void print_used(struct simulator *s, const struct mnemonic *m, const stru
 static bool execute_use(struct simulator *s, const struct mnemonic *m, uint32_t address)
 {
     uint8_t modrm = (uint8_t)(m->wide ? m->reg << 3 | MODRM_SIB : MODRM_SIB);
-    const uint8_t string[] = {0xF3,          0x0F, 0x38, m->opcode, modrm, SIB_ABSOLUTE, (uint8_t)address, (uint8_t)(address >> 8), (uint8_t)(address >> 16),
-                              (uint8_t)(address >> 24)};
+    const uint8_t string[] = {
+        0xF3, 0x0F, 0x38, m->opcode, modrm, SIB_ABSOLUTE, (uint8_t)address, (uint8_t)(address >> 8), (uint8_t)(address >> 16), (uint8_t)(address >> 24),
+    };
     return execute(s, string, sizeof string, NULL);
 }
 

@@ -2,7 +2,6 @@
 
 #include <inttypes.h>
 #include <stdio.h>
-#include <string.h>
 
 #include "json.h"
 #include "keyring.h"
@@ -29,14 +28,11 @@ static void show_slot(const struct simulator *s, const char *what, size_t at)
     putchar('\n');
 }
 
-/* Whether calls take it; the question is one that changes nothing, put to a copy. */
+/* Whether calls take it: every call but power-on asks that first, and a read writes nothing. */
 static bool is_machine(const struct simulator *s)
 {
-    uint8_t copy[KEYLOCKER_MACHINE_SIZE];
-    if (s->machine.len != sizeof copy)
-        return false;
-    memcpy(copy, s->machine.data, sizeof copy);
-    return keylocker_taken(copy, sizeof copy) == KEYLOCKER_DONE;
+    uint64_t value;
+    return keylocker_read(s->machine.data, s->machine.len, 0, 0, KEYLOCKER_COPY_STATUS, &value) != KEYLOCKER_BAD_MACHINE;
 }
 
 static bool all_zero(const uint8_t *data, size_t len)
