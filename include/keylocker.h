@@ -27,8 +27,8 @@
  *
  * Keys stay behind on the stack. A call that reads a machine, refused or not, leaves copies of the IWKeys that were in it in the bytes below the caller's
  * frame, until something else is written there: only power-on, a call refused by the block's length and the keyring's calls leave none. ENCODEKEY also
- * leaves the key that it encodes, a use or counter call the key that it opens and its round keys, and all three round keys of the IWKey. No call clears
- * them; keylocker_clear_stack, at the end of this file, does.
+ * leaves the key that it encodes, a use or counter call the key that it opens and round keys of that, and any of them round keys of the IWKey. No call
+ * clears them; keylocker_clear_stack, at the end of this file, does.
  *
  * All integers in buffers are little-endian but a counter block, the counter of keylocker_ctr, which is big-endian.
  */
@@ -363,9 +363,10 @@ uint32_t keylocker_keyring_lookup(const uint8_t *keyring, size_t keyring_len, co
  * the first of its chain. All other bytes stay. Answers 0, KEYLOCKER_BAD_KEYRING or KEYLOCKER_KEYRING_FULL. */
 uint32_t keylocker_keyring_add(uint8_t *keyring, size_t keyring_len, const uint8_t *label, size_t label_len, const uint8_t *handle, size_t handle_len);
 
-/* ---- for hosts in C ----
+/* ---- for hosts, in C99 and later, and in C++ ----
  *
  * These are compiled into the program that uses them; nothing of the above needs them, and no proof covers them. */
+#if defined(__cplusplus) || (defined(__STDC_VERSION__) && __STDC_VERSION__ >= 199901L)
 
 /* What an answer says, whatever the call. */
 static inline const char *keylocker_answer_text(uint32_t number)
@@ -507,6 +508,8 @@ static inline void keylocker_clear_stack(void)
     __asm__ volatile("");
 #endif
 }
+
+#endif
 
 #ifdef __cplusplus
 }

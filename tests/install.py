@@ -46,10 +46,12 @@ def test_header(tmp):
         + "int main(void) { return 0; }\n"
     )
     must(command("gcc", "-std=c11", *STRICT, f"-I{ROOT}/include", "-c", tmp / "numbers.c", "-o", tmp / "numbers.o"), 0, "numbers")
-    must(command("gcc", "-std=c11", *STRICT, "-fsyntax-only", "-x", "c", HEADER), 0, "header as C11")
+    for standard in ["c89", "c99", "c11"]:
+        must(command("gcc", f"-std={standard}", *STRICT, "-fsyntax-only", "-x", "c", HEADER), 0, f"header as {standard}")
     if shutil.which("g++") is None:
         return "passed in C; no g++ here"
-    must(command("g++", "-std=c++17", *STRICT, "-fsyntax-only", "-x", "c++", HEADER), 0, "header as C++17")
+    for standard in ["c++98", "c++17"]:
+        must(command("g++", f"-std={standard}", *STRICT, "-fsyntax-only", "-x", "c++", HEADER), 0, f"header as {standard}")
     for example, printed in EXAMPLES.items():
         source = ["-x", "c++", ROOT / "examples" / example, "-x", "none"]
         must(command("g++", "-std=c++17", *STRICT, f"-I{ROOT}/include", *source, LIBRARY, "-o", tmp / "cxx"), 0, f"{example} as C++17")
