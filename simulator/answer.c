@@ -3,14 +3,9 @@
 #include <stdarg.h>
 #include <stdio.h>
 
-static bool silent(const struct simulator *s)
-{
-    return s->options.quiet && !s->options.json;
-}
-
 static void add_arguments(struct simulator *s, const char *format, va_list arguments)
 {
-    if (!silent(s))
+    if (!s->options.quiet)
         bytes_print(&s->answer, format, arguments);
 }
 
@@ -24,7 +19,7 @@ void add_answer(struct simulator *s, const char *format, ...)
 
 void end_answer(struct simulator *s)
 {
-    if (silent(s))
+    if (s->options.quiet)
         return;
     if (s->options.json) {
         add_answer(s, "\n");

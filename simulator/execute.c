@@ -42,7 +42,7 @@ bool execute(struct simulator *s, const uint8_t *string, size_t len, const struc
     struct instruction instruction;
     bool known = decode(string, len, &instruction);
     uint64_t handle = known && instruction.mnemonic->memory ? handle_address(&instruction, cpu->record) : 0;
-    if (known && s->options.json)
+    if (known && s->options.json && !s->options.quiet)
         keep_text(s, &instruction);
     uint8_t own_cpl = lend_cpl(s);
     uint32_t answer = keylocker_step(s->machine.data, s->machine.len, (uint8_t)s->processor, cpu->record, cpu->len, s->memory, s->memory_len,

@@ -74,10 +74,12 @@ void print_result(struct simulator *s, const char *text, const struct name *name
 {
     s->last.name = name;
     s->last.has_result = true;
-    if (s->options.json)
-        bytes_assign(&s->result, data, len);
-    if (s->options.json || s->options.quiet)
+    if (s->options.quiet)
         return;
+    if (s->options.json) {
+        bytes_assign(&s->result, data, len);
+        return;
+    }
     printf("        %s%s", name == NULL ? text : name->text, name == NULL ? " " : " = ");
     put_hex_cut(data, len);
     putchar('\n');
@@ -111,12 +113,14 @@ const char *iwkey_text(const struct simulator *s, const uint8_t *iwkey, char roo
 
 void print_met(struct simulator *s)
 {
+    if (s->options.quiet)
+        return;
     if (s->options.json) {
         json_met(s);
-    } else if (!s->options.quiet) {
-        put_statement(s);
-        puts(": met");
+        return;
     }
+    put_statement(s);
+    puts(": met");
 }
 
 void print_unmet(struct simulator *s, const char *format, ...)
@@ -163,7 +167,7 @@ bool answered(struct simulator *s, enum call call, uint32_t answer)
 
 void end_call(struct simulator *s)
 {
-    if (s->options.json)
+    if (s->options.json && !s->options.quiet)
         json_called(s);
     s->answer.len = s->instruction.len = 0;
 }

@@ -399,6 +399,14 @@ def test_json_text(tmp):
                 need(item["text"] and all(f"        {line}\n" in printed for line in item["text"].splitlines()), file.name, item)
 
 
+def test_json_quiet(tmp):
+    """Without calls and expectations that are met; the summary counts them."""
+    text = "power-on 1\nexpect done\nsay Words.\nshow 0102\nexpect refused 2\n"
+    result = must(command(PROGRAM, "-j", "-q", "-", input=text), 1, "quiet")
+    found = objects(result.stdout)
+    need([item["type"] for item in found] == ["say", "show", "expect", "summary"] and found[-1]["calls"] == 1 and found[-1]["expects"] == 2, result.stdout)
+
+
 def test_json_example(tmp):
     """What the description of the language shows."""
     shown = re.findall(r"```json\n(.*?)```", traces.LANGUAGE.read_text(), re.S)

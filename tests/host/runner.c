@@ -18,6 +18,7 @@
 #include "keyring.h"
 #include "lend.h"
 #include "lengths.h"
+#include "overlap.h"
 #include "prefixes.h"
 #include "probe.h"
 #include "selfcheck.h"
@@ -196,7 +197,7 @@ int main(int argc, char **argv)
     aes_start();
     /* a planted fault has to be found by the random calls */
     if (!planted_fault() && (!model_meets_vectors(options.vectors) || !library_meets_lengths() || !library_meets_prefixes() || !library_meets_taken() ||
-                             !library_meets_idle() || !library_meets_ctr()))
+                             !library_meets_idle() || !library_meets_ctr() || !library_meets_overlap()))
         return 2;
     trial.memory_room = calloc(1, MEMORY_ROOM);
     trial.data_room = calloc(1, DATA_ROOM);
