@@ -95,7 +95,9 @@ put = install -d "$(DESTDIR)$2" && install -m $1 $3 "$(DESTDIR)$2/"
 fill = install -d "$(DESTDIR)$2" && $(FILL) $3 >$(call installed,$2,$3) && chmod $1 $(call installed,$2,$3)
 drop = rm -f $(foreach file,$3,$(call installed,$2,$(file)))
 
+# neither sed nor the .pc file would take these as they are
 install: all
+	@case '$(PREFIX)$(LIBDIR)$(INCLUDEDIR)' in *[\ \&\|\\]*) echo 'make install: no blanks, &, | or \ in PREFIX, LIBDIR and INCLUDEDIR' >&2; exit 1;; esac
 	$(call each_installed,put,fill)
 
 # of the folders only those that no other package has files in

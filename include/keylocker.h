@@ -22,7 +22,7 @@
  *     keylocker_ctr is copied first. Buffers that are only read, const in the prototypes, may overlap each other: a string may lie in guest memory;
  *   - no other thread uses a buffer while a call may write it;
  *   - below the caller's own frame KEYLOCKER_STACK_SIZE bytes of stack: no call goes deeper. Signal handlers on the same stack need theirs besides, and
- *     so does a dynamic linker that binds memcpy, memmove and memset at their first call, some 3 KiB; linked with -z now it binds them before.
+ *     so does a dynamic linker that binds memcpy and memset at their first call, some 3 KiB; linked with -z now it binds them before.
  * The library keeps nothing between calls and allocates nothing, so different machines and keyrings may be used by different threads at the same time.
  *
  * Keys stay behind on the stack. A call that reads a machine, refused or not, leaves copies of the IWKeys that were in it in the bytes below the caller's
@@ -142,10 +142,9 @@ extern "C" {
  * A handle is 16 bytes of AAD (restrictions and key type), a tag of 16 bytes, and the encrypted key.
  *
  * Addresses of handles are places in the guest memory that a step is lent: it begins at address 0 and ends at KEYLOCKER_MEMORY_LIMIT at the latest, and
- * what lies behind its end gives #PF. A host whose guest has more memory, or pages, finds the handle itself: by the operand and its own page tables,
- * with #PF, #GP and #SS where it is not there, not to be read or not canonical. It copies the handle, lends the copy at address 0, and rewrites the
- * operand to the absolute address 0 (ModRM with mod 0 and r/m 4, SIB 25, four zero bytes), which no register has a part in. The rewritten string is
- * of another length than the guest's, so RIP is set by the guest's:
+ * what lies behind its end gives #PF. A host whose guest has more memory, or pages, finds the handle itself, by the operand and its own page tables. It
+ * copies the handle, lends the copy at address 0, and rewrites the operand to the absolute address 0 (ModRM with mod 0 and r/m 4, SIB 25, four zero
+ * bytes), which no register has a part in. The rewritten string is of another length than the guest's, so RIP is set by the guest's:
  *
  *     static uint32_t use_copy(uint8_t *machine, uint8_t processor, uint8_t *cpu, const uint8_t *handle, size_t handle_len, uint8_t opcode,
  *                              uint8_t reg, size_t guest_string_len)
@@ -160,7 +159,9 @@ extern "C" {
  *         return answer;
  *     }
  *
- * opcode is DC to DF with reg the block's XMM register, or D8 with reg 0 to 3 for the wide form. */
+ * opcode is DC to DF with reg the block's XMM register, or D8 with reg 0 to 3 for the wide form. Where the handle is not there, not to be read or not at a
+ * canonical address, the host lends no bytes (handle_len 0): what comes before, #UD and #NM, is then answered, and KEYLOCKER_PF is the host's to
+ * replace by its own #PF, #GP or #SS. A string with F0 (LOCK) is not rewritten; lent as it is, it gives #UD. */
 #define KEYLOCKER_HANDLE_128_SIZE 48
 #define KEYLOCKER_HANDLE_256_SIZE 64
 #define KEYLOCKER_MEMORY_LIMIT 1048576
@@ -479,8 +480,9 @@ static inline void keylocker_set_xmm(uint8_t *cpu, unsigned n, const uint8_t blo
 
 /* Clears what calls left on the stack: at least KEYLOCKER_STACK_SIZE bytes below the frame of the function that it is called in, which is what those calls
  * had at most. It is to be called in the function that made the calls, or further out if the frames in between have at most KEYLOCKER_CLEAR_MARGIN bytes
- * together. It needs as much stack as it clears, and some bytes more. Registers are not cleared, nor where a signal handler or a dynamic linker saved
- * them.
+ * together; an array of variable length whose scope ended in between counts like a frame. It needs as much stack as it clears, and some bytes more.
+ * Registers are not cleared, nor where a signal handler or a dynamic linker saved them. It is for compilers that know GNU's attributes, as gcc and
+ * clang do, without a sanitizer or a second stack that arrays are moved to: others may clear other bytes.
  *
  * Its stores are volatile, which no compiler leaves out. Another function to do that, such as explicit_bzero, may be bound at its first call, by a dynamic
  * linker that then saves registers with keys in them further down. */

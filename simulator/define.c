@@ -27,5 +27,5 @@ void run_iwkey(struct simulator *s)
     print_statement(s);
     bytes_append(&s->left, s->right.data, s->right.len);
     give_value(s, name, s->left.data, s->left.len);
-    name->is_iwkey = true;
+    names_mark_iwkey(&s->names, name);
 }

@@ -73,7 +73,8 @@ static void run_encode(struct simulator *s, const struct mnemonic *m)
 {
     take_bytes_of(s, "a key", m->key_size, &s->left);
     uint32_t restrictions = take_restrictions(s);
-    struct name *result = take_result(s);
+    size_t len = m->key_size == 32 ? KEYLOCKER_HANDLE_256_SIZE : KEYLOCKER_HANDLE_128_SIZE;
+    struct name *result = take_result(s, len);
     take_end(&s->line);
     print_statement(s);
     struct cpu *cpu = this_cpu(s);
@@ -83,7 +84,6 @@ static void run_encode(struct simulator *s, const struct mnemonic *m)
         take_value_away(s, result);
         return;
     }
-    size_t len = m->key_size == 32 ? KEYLOCKER_HANDLE_256_SIZE : KEYLOCKER_HANDLE_128_SIZE;
     unsigned eax = (unsigned)keylocker_get_register(cpu->record, KEYLOCKER_RAX);
     print_answer(s, "0 done: the IWKey that it is encoded under has key source %u, NoBackup %u", eax >> 1, eax & 1);
     print_result(s, "handle", result, xmm_of(cpu, 0), len);
@@ -137,7 +137,7 @@ static void run_use(struct simulator *s, const struct mnemonic *m)
     uint32_t address = take_handle(s);
     size_t len = m->wide ? 8 * 16 : 16;
     take_bytes_of(s, m->wide ? "8 blocks" : "a block", len, &s->left);
-    struct name *result = take_result(s);
+    struct name *result = take_result(s, len);
     take_end(&s->line);
     print_statement(s);
     if (!in_memory)

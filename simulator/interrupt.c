@@ -1,17 +1,21 @@
-#define _GNU_SOURCE // ppoll, sigaction
+#define _POSIX_C_SOURCE 200809L // sigaction, sigsetjmp
 
 #include "interrupt.h"
 
-#include <errno.h>
-#include <poll.h>
+#include <setjmp.h>
 #include <signal.h>
+#include <unistd.h>
 
-static volatile sig_atomic_t came;
+static volatile sig_atomic_t came, reading;
+static sigjmp_buf before_read;
 
+/* Out of a read, which would go on waiting: a terminal throws what was typed away at Ctrl-C, so that even one for which there was input may wait. */
 static void on_interrupt(int number)
 {
     (void)number;
     came = 1;
+    if (reading)
+        siglongjmp(before_read, 1);
 }
 
 /* Restarting, so that no write is cut short: printed lines stay whole. Where the caller ignores Ctrl-C (nohup), it stays ignored. */
@@ -27,16 +31,14 @@ bool interrupted(void)
     return came;
 }
 
-/* The signal is held back but for the wait itself, so that it cannot come between the question and the wait. */
-bool wait_readable(int fd)
+ssize_t read_interruptible(int fd, char *buffer, size_t size)
 {
-    sigset_t interrupt, before;
-    sigemptyset(&interrupt);
-    sigaddset(&interrupt, SIGINT);
-    sigprocmask(SIG_BLOCK, &interrupt, &before);
-    struct pollfd input = {.fd = fd, .events = POLLIN};
-    while (!came && ppoll(&input, 1, NULL, &before) < 0 && errno == EINTR)
-        ;
-    sigprocmask(SIG_SETMASK, &before, NULL);
-    return !came;
+    ssize_t got = -1;
+    if (sigsetjmp(before_read, 1) == 0) {
+        reading = 1;
+        if (!came) // one that comes from here on leaves by the jump
+            got = read(fd, buffer, size);
+    }
+    reading = 0;
+    return got;
 }

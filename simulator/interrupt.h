@@ -3,12 +3,14 @@
 #define INTERRUPT_H
 
 #include <stdbool.h>
+#include <stddef.h>
+#include <sys/types.h>
 
 void interrupt_start(void);
 
 bool interrupted(void);
 
-/* Waits until a read of the file would not; false where Ctrl-C came before. */
-bool wait_readable(int fd);
+/* As read, which Ctrl-C ends: interrupted() tells, and what is returned does not count then. */
+ssize_t read_interruptible(int fd, char *buffer, size_t size);
 
 #endif

@@ -101,7 +101,7 @@ static void run_lookup(struct simulator *s)
 {
     uint8_t kind, handle[KEYLOCKER_HANDLE_256_SIZE];
     take_label(s);
-    struct name *result = take_result(s);
+    struct name *result = take_result(s, KEYLOCKER_HANDLE_256_SIZE);
     take_end(&s->line);
     print_statement(s);
     uint32_t answer = keylocker_keyring_lookup(s->keyring.data, s->keyring.len, s->left.data, s->left.len, &kind, handle);

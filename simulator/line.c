@@ -7,6 +7,7 @@
 #include <string.h>
 
 #include "bytes.h"
+#include "output.h"
 #include "progress.h"
 
 int shown(size_t len)
@@ -17,7 +18,7 @@ int shown(size_t len)
 void bad_line(const struct line *line, const char *format, ...)
 {
     progress_erase();
-    fflush(stdout);
+    output_flushed();
     fprintf(stderr, "%s:%zu: ", line->file, line->number);
     va_list arguments;
     va_start(arguments, format);

@@ -10,6 +10,7 @@
 #include <unistd.h>
 
 #include "interrupt.h"
+#include "output.h"
 #include "print.h"
 #include "progress.h"
 #include "reader.h"
@@ -30,35 +31,17 @@ static const char help[] =
     "      --version\n"
     "  -h, --help\n"
     "\n"
-    "Statements (simulator/TRACES.md has them all): power-on COUNT, cpu N loadiwkey KEY, cpu N encodekey128 KEY -> NAME,\n"
+    "Statements (keylocker-traces(5) has them all, and so has TRACES.md): power-on COUNT, cpu N loadiwkey KEY, cpu N encodekey128 KEY -> NAME,\n"
     "cpu N aesenc128kl HANDLE BLOCK -> NAME, cpu N ctr HANDLE COUNTER BYTES -> NAME, cpu N step STRING,\n"
     "cpu N cpuid LEAF SUBLEAF, cpu N read REGISTER, cpu N write REGISTER VALUE,\n"
     "taken, settle good|bad, sleep old|new|junk, reset,\n"
     "keyring records N, keyring add LABEL HANDLE, keyring lookup LABEL -> NAME,\n"
     "expect done | refused NUMBER | refused NAME | zf BIT | value NUMBER | kind NUMBER | eax NUMBER | BYTES = BYTES.\n"
     "\n"
-    "Exit status: 0 if all went well, 1 if an expectation of the trace was not met, 2 for a bad trace, bad usage or output that is lost,\n"
-    "130 behind Ctrl-C.\n";
+    "Exit status: 0 if all went well, 1 if an expectation of the trace was not met or by --strict, 2 for a bad trace, bad usage or output that\n"
+    "is lost, 130 behind Ctrl-C.\n";
 
 enum { FINE = 0, UNMET = 1, BAD = 2, INTERRUPTED = 130 };
-
-/* ---- output */
-
-/* Whether all that was printed went out; otherwise it is said. */
-static bool flushed(void)
-{
-    errno = 0;
-    if (fflush(stdout) == 0 && !ferror(stdout))
-        return true;
-    fprintf(stderr, "keylocker-simulator: standard output: %s\n", errno != 0 ? strerror(errno) : "what was printed did not all go out");
-    return false;
-}
-
-static int print(const char *text, size_t len)
-{
-    fwrite(text, 1, len, stdout);
-    return flushed() ? FINE : BAD;
-}
 
 /* ---- a trace */
 
@@ -117,10 +100,11 @@ static void say_first(const struct simulator *s)
 static int finish(struct simulator *s)
 {
     count_unexpected(s);
-    int status = interrupted() ? INTERRUPTED : s->counts.bad > 0 ? BAD : went_well(s) ? FINE : UNMET;
+    bool cut_short = interrupted(); // once: it may still come
+    int status = cut_short ? INTERRUPTED : s->counts.bad > 0 ? BAD : went_well(s) ? FINE : UNMET;
     progress_erase();
-    print_summary(s, status, interrupted());
-    if (!flushed())
+    print_summary(s, status, cut_short);
+    if (!output_flushed())
         return BAD;
     say_first(s);
     return status;
@@ -161,6 +145,12 @@ static int replay(const char *file, const struct options *options)
 }
 
 /* ---- arguments */
+
+static int print(const char *text, size_t len)
+{
+    fwrite(text, 1, len, stdout);
+    return output_flushed() ? FINE : BAD;
+}
 
 static int bad_usage(const char *what, const char *argument)
 {

@@ -63,7 +63,7 @@ struct name *names_get(struct names *names, const char *text, size_t len)
     name->text[len] = '\0';
     names->all[names->count] = name;
     put_slot(names, names->count++);
-    names->held += sizeof *name + len;
+    names->held += NAME_COST + len;
     return name;
 }
 
@@ -84,6 +84,19 @@ void names_assign(struct names *names, struct name *name, const uint8_t *data, s
     bytes_assign(&name->value, data, len);
 }
 
+void names_mark_iwkey(struct names *names, struct name *name)
+{
+    name->is_iwkey = true;
+    if (name->among_iwkeys)
+        return;
+    name->among_iwkeys = true;
+    if (names->iwkey_count == names->iwkey_room) {
+        names->iwkey_room = names->iwkey_room == 0 ? 16 : 2 * names->iwkey_room;
+        names->iwkeys = allocate(names->iwkeys, names->iwkey_room * sizeof *names->iwkeys);
+    }
+    names->iwkeys[names->iwkey_count++] = name;
+}
+
 void names_free(struct names *names)
 {
     for (size_t i = 0; i < names->count; i++) {
@@ -92,6 +105,7 @@ void names_free(struct names *names)
         free(names->all[i]);
     }
     free(names->all);
+    free(names->iwkeys);
     free(names->slots);
     *names = (struct names){0};
 }

@@ -13,8 +13,10 @@ struct name {
     size_t len;
     uint64_t hash;
     struct bytes value;
+    bool given;     /* not by a line that was bad */
     bool has_value; /* not where the call that should have given it gave none */
     bool is_iwkey;
+    bool among_iwkeys;
     size_t line; /* where it was last given */
 };
 
@@ -26,8 +28,13 @@ struct names {
     size_t count, room;
     size_t *slots; /* a hash table of places in all, plus 1; 0 is free */
     size_t slot_count;
-    size_t held; /* bytes of texts and values, with the rooms that these keep */
+    struct name **iwkeys; /* those that an IWKey was given */
+    size_t iwkey_count, iwkey_room;
+    size_t held; /* bytes of names and values, with the rooms that these keep */
 };
+
+/* What a name takes besides its text and value: itself, its places in the tables, and what three allocations cost. */
+enum { NAME_COST = sizeof(struct name) + 128 };
 
 /* None where there is no such name. */
 struct name *names_find(const struct names *names, const char *text, size_t len);
@@ -39,6 +46,9 @@ struct name *names_get(struct names *names, const char *text, size_t len);
 bool names_have_room(const struct names *names, const struct name *name, size_t len);
 
 void names_assign(struct names *names, struct name *name, const uint8_t *data, size_t len);
+
+/* The name's value is an IWKey from here on, until it is given another. */
+void names_mark_iwkey(struct names *names, struct name *name);
 
 void names_free(struct names *names);
 

@@ -98,6 +98,8 @@ static void print_slept(struct simulator *s, uint8_t code, bool pending)
         [KEYLOCKER_WAKE_OLD] = "the pending backup is lost, persistent storage has what it had before",
         [KEYLOCKER_WAKE_NEW] = "persistent storage has the backup that was pending",
     };
+    if (s->options.quiet)
+        return;
     char room[IWKEY_TEXT];
     const uint8_t *backup = s->machine.data + KEYLOCKER_MACHINE_BACKUP;
     add_answer(s, "0 done: every IWKey is zero; ");

@@ -97,8 +97,8 @@ const char *iwkey_text(const struct simulator *s, const uint8_t *iwkey, char roo
     static const uint8_t zero[KEYLOCKER_IWKEY_SOURCE];
     if (memcmp(iwkey, zero, sizeof zero) == 0)
         return "all zero";
-    for (size_t i = 0; i < s->names.count; i++) {
-        const struct name *name = s->names.all[i];
+    for (size_t i = 0; i < s->names.iwkey_count; i++) {
+        const struct name *name = s->names.iwkeys[i];
         if (name->is_iwkey && memcmp(name->value.data, iwkey, KEYLOCKER_IWKEY_SOURCE) == 0)
             return name->text;
     }

@@ -75,7 +75,7 @@ static void run_ctr(struct simulator *s)
     append_word_value(s, take_word(&s->line, "a counter block"), &s->right);
     if (!accept(&s->line, "empty"))
         take_bytes(s, "bytes, or empty", &s->left);
-    struct name *result = take_result(s);
+    struct name *result = take_result(s, s->left.len);
     take_end(&s->line);
     print_statement(s);
     struct counted counted = {s->right.data, s->right.data + handle_len, handle_len, s->right.len - handle_len, &s->left};

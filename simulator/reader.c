@@ -1,11 +1,8 @@
-#define _POSIX_C_SOURCE 200809L // ssize_t, read
-
 #include "reader.h"
 
 #include <stdio.h>
 #include <stdlib.h>
 #include <string.h>
-#include <unistd.h>
 
 #include "bytes.h"
 #include "interrupt.h"
@@ -41,9 +38,9 @@ static enum reading fill(struct reader *r)
         r->data = r->buffer = allocate(r->buffer, r->room);
     }
     fflush(stdout); // an error stays, and is told at the end
-    if (!wait_readable(r->fd))
+    ssize_t got = read_interruptible(r->fd, r->buffer + rest, r->room - rest);
+    if (interrupted())
         return READING_INTERRUPTED;
-    ssize_t got = read(r->fd, r->buffer + rest, r->room - rest);
     if (got < 0)
         return READING_ERROR;
     r->end += (size_t)got;

@@ -70,7 +70,10 @@ void add_refusal(struct simulator *s, enum call call, uint32_t number)
 {
     switch (number) {
     case KEYLOCKER_BAD_MACHINE:
-        add_answer(s, call == CALL_POWER_ON ? "the processor count or the features are not possible" : "these bytes are no machine; was it powered on?");
+        if (s->machine.len != KEYLOCKER_MACHINE_SIZE)
+            add_answer(s, "the machine does not have %d bytes", KEYLOCKER_MACHINE_SIZE);
+        else
+            add_answer(s, call == CALL_POWER_ON ? "the processor count or the features are not possible" : "these bytes are no machine; was it powered on?");
         break;
     case KEYLOCKER_BAD_CODE:
         add_answer(s, "%s code unknown", call == CALL_SETTLE ? "settle" : "wake");

@@ -47,9 +47,9 @@ static void show_machine(struct simulator *s)
 {
     const uint8_t *m = s->machine.data;
     if (!is_machine(s)) {
-        bool fresh = s->machine.len == KEYLOCKER_MACHINE_SIZE && all_zero(m, s->machine.len);
-        printf("        %zu bytes, %s; every call but power-on is refused, %d\n", s->machine.len,
-               fresh ? "all zero: the machine is not powered on" : "which are no machine", KEYLOCKER_BAD_MACHINE);
+        bool whole = s->machine.len == KEYLOCKER_MACHINE_SIZE, fresh = whole && all_zero(m, s->machine.len);
+        printf("        %zu bytes, %s; every call%s is refused, %d\n", s->machine.len, fresh ? "all zero: the machine is not powered on" : "which are no machine",
+               whole ? " but power-on" : "", KEYLOCKER_BAD_MACHINE);
         return;
     }
     printf("        processors %u, features 0x%02x\n", m[KEYLOCKER_MACHINE_COUNT], m[KEYLOCKER_MACHINE_FEATURES]);

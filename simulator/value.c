@@ -73,6 +73,8 @@ static struct view named_view(struct simulator *s, struct word word)
 {
     struct view view;
     struct name *name = names_find(&s->names, word.text, word.len);
+    if (name != NULL && !name->given)
+        name = NULL;
     if (name != NULL && !name->has_value)
         bad_line(&s->line, "'%s' has no value: the call in line %zu gave it none", name->text, name->line);
     if (name != NULL)
@@ -85,6 +87,10 @@ static struct view named_view(struct simulator *s, struct word word)
         return (struct view){s->keyring.data, s->keyring.len};
     if (cpu_view(s, word, &view))
         return view;
+    if (register_named(word) != NULL && s->processor < 0)
+        bad_line(&s->line, "'%.*s' belongs to a processor; expected cpu N before the statement", shown(word.len), word.text);
+    if (register_named(word) != NULL)
+        bad_line(&s->line, "'%.*s' is a number; expected bytes", shown(word.len), word.text);
     if (word.len > 2 && word.text[0] == '0' && word.text[1] == 'x')
         bad_line(&s->line, "expected bytes without 0x, the first byte first, not '%.*s'", shown(word.len), word.text);
     bad_line(&s->line, "'%.*s' is no name given before, and not hexadecimal; expected bytes", shown(word.len), word.text);
@@ -128,15 +134,16 @@ static struct view range_of(struct simulator *s, struct cursor *c, struct view v
     return (struct view){view.data + from, (size_t)(to - from) + 1};
 }
 
-static void append_limited(struct simulator *s, struct bytes *out, struct view view, uint64_t times)
+static void append_limited(struct simulator *s, struct bytes *out, size_t begin, struct view view, uint64_t times)
 {
-    if (view.len != 0 && times > (BYTES_LIMIT - out->len) / view.len)
+    if (view.len != 0 && times > (BYTES_LIMIT - (out->len - begin)) / view.len)
         bad_line(&s->line, "expected at most %zu bytes in one byte string", BYTES_LIMIT);
     for (uint64_t i = 0; view.len != 0 && i < times; i++)
         bytes_append(out, view.data, view.len);
 }
 
-static void append_factor(struct simulator *s, struct cursor *c, struct bytes *out)
+/* Those from begin on are within the limit of one byte string. */
+static void append_factor(struct simulator *s, struct cursor *c, struct bytes *out, size_t begin)
 {
     struct word word = {c->p, 0};
     while (c->p < c->end && name_character(*c->p))
@@ -147,17 +154,17 @@ static void append_factor(struct simulator *s, struct cursor *c, struct bytes *o
     struct view view = all_hex(word) ? hex_view(s, word) : named_view(s, word);
     if (skip(c, "["))
         view = range_of(s, c, view);
-    append_limited(s, out, view, skip(c, "*") ? number_at(s, c) : 1);
+    append_limited(s, out, begin, view, skip(c, "*") ? number_at(s, c) : 1);
 }
 
 void append_word_value(struct simulator *s, struct word word, struct bytes *out)
 {
     struct cursor c = {word.text, word.text + word.len, word};
     size_t begin = out->len;
-    append_factor(s, &c, out);
+    append_factor(s, &c, out, 0);
     size_t middle = out->len;
     while (skip(&c, "^")) {
-        append_factor(s, &c, out);
+        append_factor(s, &c, out, middle);
         if (out->len - middle != middle - begin)
             bad_line(&s->line, "'%.*s' joins %zu and %zu bytes by ^; expected as many on both sides", shown(word.len), word.text,
                      middle - begin, out->len - middle);
@@ -208,19 +215,17 @@ struct name *take_new_name(struct simulator *s)
     uint64_t number;
     if (number_in(word.text, word.len, &number) || ONE_OF(word, stops) || ONE_OF(word, reserved) || xmm_named(word) >= 0 || register_named(word) != NULL)
         bad_line(&s->line, "'%.*s' cannot be a name, since it means something already; expected another", shown(word.len), word.text);
-    need_room(s, NULL, word.len);
-    name = names_get(&s->names, word.text, word.len);
-    name->line = s->line.number;
-    return name;
+    need_room(s, NULL, NAME_COST + word.len);
+    return names_get(&s->names, word.text, word.len);
 }
 
 /* Room is asked for before the call, which is not made in a bad line. */
-struct name *take_result(struct simulator *s)
+struct name *take_result(struct simulator *s, size_t len)
 {
     if (!accept(&s->line, "->"))
         return NULL;
     struct name *name = take_new_name(s);
-    need_room(s, name, KEYLOCKER_BUFFER_LIMIT);
+    need_room(s, name, len);
     return name;
 }
 
@@ -229,7 +234,7 @@ void give_value(struct simulator *s, struct name *name, const uint8_t *data, siz
     if (name == NULL)
         return;
     names_assign(&s->names, name, data, len);
-    name->has_value = true;
+    name->given = name->has_value = true;
     name->is_iwkey = false;
     name->line = s->line.number;
 }
@@ -238,6 +243,7 @@ void take_value_away(struct simulator *s, struct name *name)
 {
     if (name == NULL)
         return;
+    name->given = true;
     name->has_value = name->is_iwkey = false;
     name->line = s->line.number;
 }

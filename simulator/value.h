@@ -19,8 +19,8 @@ struct name *take_new_name(struct simulator *s);
 /* The line is bad where the names would hold too much with as many bytes in this one. */
 void need_room(struct simulator *s, const struct name *name, size_t len);
 
-/* The name behind "->", or none; there is room for any result. */
-struct name *take_result(struct simulator *s);
+/* The name behind "->", or none; there is room for a result of that length. */
+struct name *take_result(struct simulator *s, size_t len);
 
 /* The statement gives the name these bytes, or none. Nothing is done where there is no name. */
 void give_value(struct simulator *s, struct name *name, const uint8_t *data, size_t len);

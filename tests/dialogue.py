@@ -268,7 +268,7 @@ def test_terminal_bad_line(tmp):
         terminal.type(f"{bad}\n")
         terminal.until(said)
     terminal.type("cpu 0 aesenc128kl handle 00*16\n")
-    terminal.until("'handle' has no value: the call in line 3 gave it none")
+    terminal.until("'handle' is no name given before")
     terminal.type("cpu 0 encodekey128 00*16 -> handle\n")
     terminal.until("handle = 0000")
     terminal.type("cpu 0 aesenc128kl handle 00*16\n")
@@ -285,6 +285,22 @@ def test_terminal_interrupted(tmp):
     terminal.type("\x03")
     shown, status = terminal.end()
     need(status == 130 and "1 lines, 1 calls, 0 of them refused; 0 expectations, 0 of them not met; interrupted" in shown, status, shown)
+
+
+def test_terminal_interrupted_early(tmp):
+    """Directly behind a line, when that is or is not yet read: a terminal throws away at Ctrl-C what was typed."""
+    rng = random.Random(6)
+    for _ in range(200):
+        terminal = Terminal("-")
+        terminal.type("say ready\n")
+        terminal.until("ready\nready\n")
+        terminal.type("say more\n")
+        end = time.perf_counter() + rng.random() * 60e-6
+        while time.perf_counter() < end:
+            pass
+        terminal.type("\x03")
+        shown, status = terminal.end()
+        need(status == 130 and shown.endswith("; interrupted\n"), status, shown)
 
 
 def test_narrow_terminal(tmp):

@@ -205,6 +205,13 @@ def test_other_folders(tmp):
     need("\nlibdir=${prefix}/lib/x86_64-linux-gnu\nincludedir=/usr/include/kl\n" in pc, pc)
 
 
+def test_bad_folders(tmp):
+    """What a .pc file could not tell is refused before anything is installed."""
+    for name in ["a b", "a&b", "a|b", "a\\b"]:
+        result = make("install", f"LIBKEYLOCKER={LIBRARY}", f"DESTDIR={tmp}/stage", f"PREFIX=/{name}")
+        need(result.returncode == 2 and "make install: no blanks" in result.stderr and not (tmp / "stage").exists(), name, result.stderr)
+
+
 def test_uninstall(tmp):
     """Nothing stays but what others put there."""
     for folders in [FOLDERS, OTHER_FOLDERS]:

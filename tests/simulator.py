@@ -91,7 +91,14 @@ show machine
 -- 924 bytes, all zero: the machine is not powered on; every call but power-on is refused, 1
 machine = 00*923
 show machine
--- 923 bytes, which are no machine; every call but power-on is refused, 1
+-- 923 bytes, which are no machine; every call is refused, 1
+power-on 1
+-- 1 the machine does not have 924 bytes
+taken
+-- 1 the machine does not have 924 bytes
+machine = 01*924
+show machine
+-- 924 bytes, which are no machine; every call but power-on is refused, 1
 machine = 00*924
 power-on 17
 -- 1 the processor count or the features are not possible
@@ -556,7 +563,10 @@ BAD_LINES = [
     ("expect good", "expected = after 'good'"),
     ("show", "expected machine, keyring or bytes after 'show'"),
     ("cpu 0 show rip rsp", "expected the end of the line, not 'rsp'"),
-    ("show rip", "'rip' is no name given before"),
+    ("show rip", "'rip' belongs to a processor; expected cpu N"),
+    ("cpu 0 bytes good = rip", "'rip' is a number; expected bytes"),
+    ("bytes new = new", "'new' is no name given before"),
+    ("cpu 0 encodekey128 00*16 -> new new", "expected the end of the line, not 'new'"),
     ("bytes good = \x01", "a control character (byte 0x01)"),
     ("expect good = \0", "a control character (byte 0x00)"),
 ]
@@ -597,11 +607,13 @@ def test_usage(tmp):
 def test_full(tmp):
     """Output that is lost is told, whatever is printed."""
     (tmp / "short.trace").write_text("power-on 1\n")
-    for args in [[], ["--json"], ["-q"], [tmp / "short.trace"], ["--print-scenario"], ["--help"], ["-h"], ["--version"]]:
+    (tmp / "bad.trace").write_text("power-on 1\nsleep well\n")
+    for args in [[], ["--json"], ["-q"], [tmp / "short.trace"], ["--print-scenario"], ["--help"], ["-h"], ["--version"], [tmp / "bad.trace"]]:
         with open("/dev/full", "w") as full:
             result = subprocess.run([PROGRAM, *args], stdout=full, stderr=subprocess.PIPE, text=True)
         need(result.returncode == 2, args, "exit status", result.returncode)
-        need(result.stderr.startswith("keylocker-simulator: standard output: ") and result.stderr.count("\n") == 1, args, result.stderr)
+        bad = args == [tmp / "bad.trace"]
+        need(result.stderr.startswith("keylocker-simulator: standard output: ") and result.stderr.count("\n") == 1 + bad, args, result.stderr)
 
 
 # ---- long traces
@@ -647,9 +659,23 @@ def test_large_names(tmp):
     result = must(simulate("\n".join(lines), "-q", preexec_fn=limit), 2, "large names")
     need("standard input:128: 2097154 more bytes in a name; expected at most 268435456 in all names together\n" == result.stderr, result.stderr)
     must(simulate("\n".join(lines[:1] * 400), "-q", preexec_fn=limit), 0, "one name again and again")
-    kept = "power-on 1\n" + "\n".join(lines[:127]) + "\n" + "".join(f"bytes rest-{n} = 00*99000\n" for n in range(21))
-    result = must(simulate(f"{kept}reset\ncpu 0 encodekey128 00*16 -> handle\n", "-q", preexec_fn=limit), 2, "no room for a result")
-    need("standard input:151: 65536 more bytes in a name" in result.stderr and "150 lines" not in result.stdout, result.stderr)
+    kept = "power-on 1\n" + "\n".join(lines[:127]) + "\n" + "".join(f"bytes rest-{n} = 00*102000\n" for n in range(20))
+    must(simulate(f"{kept}cpu 0 encodekey128 00*16 -> handle\n", "-q", preexec_fn=limit), 0, "room for a handle")
+    result = must(simulate(f"{kept}say LAST\ncpu 0 ctr 00*48 00*16 00*65536 -> counted\n", preexec_fn=limit), 2, "no room for a result")
+    need("standard input:150: 65536 more bytes in a name" in result.stderr and result.stdout.endswith("LAST\n"), result.stderr)
+
+
+def test_xor_limit(tmp):
+    """Both sides may be as long as a byte string."""
+    must(simulate("bytes all = memory memory\nbytes zero = all^all 0000\nexpect zero = 00*2097154\n", "-q"), 0, "memory twice")
+    must(simulate("bytes all = memory memory\nbytes zero = all^all 000000\n", "-q"), 2, "a byte more")
+
+
+def test_many_sleeps(tmp):
+    """An IWKey without a name is not looked for among all other names."""
+    names = "".join(f"bytes name-{n} = {n:08x}\n" for n in range(30_000))
+    text = f"{names}power-on 1\ncpu 0 loadiwkey 11*48\ncpu 0 write 0xD91 1\nsettle good\n" + "sleep old\nshow machine\n" * 30_000
+    must(simulate(text, timeout=30), 0, "many sleeps")
 
 
 def on_terminal(args, out):
