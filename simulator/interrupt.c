@@ -33,12 +33,12 @@ bool interrupted(void)
 
 ssize_t read_interruptible(int fd, char *buffer, size_t size)
 {
-    ssize_t got = -1;
-    if (sigsetjmp(before_read, 1) == 0) {
-        reading = 1;
-        if (!came) // one that comes from here on leaves by the jump
-            got = read(fd, buffer, size);
+    if (sigsetjmp(before_read, 1) != 0) {
+        reading = 0;
+        return -1;
     }
+    reading = 1;
+    ssize_t got = came ? -1 : read(fd, buffer, size); // one that comes from here on leaves by the jump
     reading = 0;
     return got;
 }
