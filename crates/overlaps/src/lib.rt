@@ -1,8 +1,8 @@
 // Buffers that a call only reads may overlap. Each function lends parts of one region, which may have bytes in common, and the call's promise holds of them.
-// Nothing calls these functions: that they are proved is what they are for.
-ghost use Prim.Native.Nat.{_≤_};
+// A buffer is region[from..to], with the first letter of its name before both. Nothing calls these functions: that they are proved is what they are for.
+ghost use Prim.Native.Nat.{_≤_, _-_};
 ghost use lib.ListN.{length};
-ghost use Rattle.overlaps.specs.Part.{part};
+ghost use Rattle.model.specs.Numbers.{part};
 ghost use Rattle.keylocker.specs.Promises.{StepPromise, CounterPromise, CpuidPromise, KeyringLookupPromise, KeyringAddPromise};
 
 // A string inside guest memory, and random data in both.
@@ -24,7 +24,7 @@ fn step_reads(
     requires { ⌜ rto ≤ length (now region) ⌝ }
     requires { ⌜ sfrom ≤ sto ⌝ }
     requires { ⌜ sto ≤ length (now region) ⌝ }
-    ensures { λ r. ⌜ StepPromise (now (machine .entry)) (record { processor = processor; cpu = now (cpu .entry); memory = part mfrom mto (now (region .entry)); random = part rfrom rto (now (region .entry)); string = part sfrom sto (now (region .entry)) }) (now (machine .exit)) (now (cpu .exit)) r ⌝ }
+    ensures { λ r. ⌜ StepPromise (now (machine .entry)) (record { processor = processor; cpu = now (cpu .entry); memory = part (mto - mfrom) mfrom (now (region .entry)); random = part (rto - rfrom) rfrom (now (region .entry)); string = part (sto - sfrom) sfrom (now (region .entry)) }) (now (machine .exit)) (now (cpu .exit)) r ⌝ }
 {
     keylocker::keylocker_step(
         machine,
@@ -52,7 +52,7 @@ fn ctr_reads(
     requires { ⌜ hto ≤ length (now region) ⌝ }
     requires { ⌜ cfrom ≤ cto ⌝ }
     requires { ⌜ cto ≤ length (now region) ⌝ }
-    ensures { λ r. ⌜ CounterPromise (now (machine .entry)) (record { processor = processor; cpu = now (cpu .entry); handle = part hfrom hto (now (region .entry)); counter = part cfrom cto (now (region .entry)); buffer = now (buffer .entry) }) (now (machine .exit)) (now (cpu .exit)) (now (buffer .exit)) r ⌝ }
+    ensures { λ r. ⌜ CounterPromise (now (machine .entry)) (record { processor = processor; cpu = now (cpu .entry); handle = part (hto - hfrom) hfrom (now (region .entry)); counter = part (cto - cfrom) cfrom (now (region .entry)); buffer = now (buffer .entry) }) (now (machine .exit)) (now (cpu .exit)) (now (buffer .exit)) r ⌝ }
 {
     keylocker::keylocker_ctr(
         machine,
@@ -82,7 +82,7 @@ fn cpuid_reads(
     requires { ⌜ mto ≤ length (now region) ⌝ }
     requires { ⌜ cfrom ≤ cto ⌝ }
     requires { ⌜ cto ≤ length (now region) ⌝ }
-    ensures { λ r. ⌜ CpuidPromise (part mfrom mto (now (region .entry))) (record { cpu = part cfrom cto (now (region .entry)); leaf = leaf; subleaf = subleaf }) (record { eax = now (eax .entry); ebx = now (ebx .entry); ecx = now (ecx .entry); edx = now (edx .entry) }) (record { eax = now (eax .exit); ebx = now (ebx .exit); ecx = now (ecx .exit); edx = now (edx .exit) }) r ⌝ }
+    ensures { λ r. ⌜ CpuidPromise (part (mto - mfrom) mfrom (now (region .entry))) (record { cpu = part (cto - cfrom) cfrom (now (region .entry)); leaf = leaf; subleaf = subleaf }) (record { eax = now (eax .entry); ebx = now (ebx .entry); ecx = now (ecx .entry); edx = now (edx .entry) }) (record { eax = now (eax .exit); ebx = now (ebx .exit); ecx = now (ecx .exit); edx = now (edx .exit) }) r ⌝ }
 {
     keylocker::keylocker_cpuid(
         &region[mfrom..mto],
@@ -110,7 +110,7 @@ fn lookup_reads(
     requires { ⌜ kto ≤ length (now region) ⌝ }
     requires { ⌜ lfrom ≤ lto ⌝ }
     requires { ⌜ lto ≤ length (now region) ⌝ }
-    ensures { λ r. ⌜ KeyringLookupPromise (part kfrom kto (now (region .entry))) (part lfrom lto (now (region .entry))) (now (kind .entry)) (now (handle .entry)) (now (kind .exit)) (now (handle .exit)) r ⌝ }
+    ensures { λ r. ⌜ KeyringLookupPromise (part (kto - kfrom) kfrom (now (region .entry))) (part (lto - lfrom) lfrom (now (region .entry))) (now (kind .entry)) (now (handle .entry)) (now (kind .exit)) (now (handle .exit)) r ⌝ }
 {
     keylocker::keylocker_keyring_lookup(&region[kfrom..kto], &region[lfrom..lto], kind, handle)
 }
@@ -128,7 +128,7 @@ fn add_reads(
     requires { ⌜ lto ≤ length (now region) ⌝ }
     requires { ⌜ hfrom ≤ hto ⌝ }
     requires { ⌜ hto ≤ length (now region) ⌝ }
-    ensures { λ r. ⌜ KeyringAddPromise (now (keyring .entry)) (part lfrom lto (now (region .entry))) (part hfrom hto (now (region .entry))) (now (keyring .exit)) r ⌝ }
+    ensures { λ r. ⌜ KeyringAddPromise (now (keyring .entry)) (part (lto - lfrom) lfrom (now (region .entry))) (part (hto - hfrom) hfrom (now (region .entry))) (now (keyring .exit)) r ⌝ }
 {
     keylocker::keylocker_keyring_add(keyring, &region[lfrom..lto], &region[hfrom..hto])
 }
