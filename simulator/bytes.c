@@ -4,6 +4,8 @@
 #include <stdlib.h>
 #include <string.h>
 
+#include "text.h"
+
 void *allocate(void *old, size_t size)
 {
     void *p = realloc(old, size);
@@ -62,16 +64,13 @@ void bytes_free(struct bytes *b)
 
 void put_hex(const uint8_t *data, size_t len)
 {
-    static const char digits[] = "0123456789abcdef";
     enum { SOME = 128 };
-    char text[2 * SOME];
+    char room[2 * SOME + 1];
     for (size_t i = 0; i < len; i += SOME) {
-        size_t some = len - i < SOME ? len - i : SOME;
-        for (size_t j = 0; j < some; j++) {
-            text[2 * j] = digits[data[i + j] >> 4];
-            text[2 * j + 1] = digits[data[i + j] & 15];
-        }
-        fwrite(text, 1, 2 * some, stdout);
+        struct text t;
+        text_start(&t, room, sizeof room);
+        text_add_bytes(&t, data + i, len - i < SOME ? len - i : SOME);
+        fwrite(room, 1, t.len, stdout);
     }
 }
 

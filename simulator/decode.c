@@ -1,9 +1,7 @@
 #include "decode.h"
 
-#include <inttypes.h>
-#include <stdarg.h>
-#include <stdio.h>
-#include <string.h>
+#include "keylocker.h"
+#include "text.h"
 
 /* ---- strings */
 
@@ -95,51 +93,56 @@ static const char *const names_64[] = {"rax", "rcx", "rdx", "rbx", "rsp", "rbp",
 static const char *const names_32[] = {"eax", "ecx",  "edx",  "ebx",  "esp",  "ebp",  "esi",  "edi", "r8d",
                                        "r9d", "r10d", "r11d", "r12d", "r13d", "r14d", "r15d", "eip"};
 
-__attribute__((format(printf, 2, 3))) static void add(char *text, const char *format, ...)
-{
-    size_t len = strlen(text);
-    va_list arguments;
-    va_start(arguments, format);
-    vsnprintf(text + len, INSTRUCTION_TEXT - len, format, arguments);
-    va_end(arguments);
-}
-
 /* The parts that are there. Where there is no register, with 67 the word eiz stands for none, so that the prefix shows. */
-static void add_place(char *text, const struct instruction *i)
+static void add_place(struct text *t, const struct instruction *i)
 {
     const char *const *names = i->address_32 ? names_32 : names_64;
     int64_t displacement = i->displacement;
     bool absolute = i->base == NO_REGISTER && i->index == NO_REGISTER;
-    add(text, "[");
-    if (absolute && i->address_32) {
-        add(text, "eiz*1+0x%" PRIx32 "]", (uint32_t)i->displacement);
-        return;
-    }
+    text_add(t, "[");
     if (i->base != NO_REGISTER)
-        add(text, "%s", names[i->base]);
-    if (i->index != NO_REGISTER)
-        add(text, "%s%s*%u", i->base == NO_REGISTER ? "" : "+", names[i->index], i->scale);
-    if (displacement < 0)
-        add(text, "-0x%" PRIx64, (uint64_t)-displacement);
-    else if (displacement > 0 || absolute)
-        add(text, "%s0x%" PRIx64, absolute ? "" : "+", (uint64_t)displacement);
-    add(text, "]");
+        text_add(t, names[i->base]);
+    if (i->index != NO_REGISTER) {
+        text_add(t, i->base == NO_REGISTER ? "" : "+");
+        text_add(t, names[i->index]);
+        text_add(t, "*");
+        text_add_decimal(t, i->scale);
+    }
+    if (absolute && i->address_32) {
+        text_add(t, "eiz*1+");
+        text_add_hexadecimal(t, (uint32_t)i->displacement);
+    } else if (displacement < 0 || displacement > 0 || absolute) {
+        text_add(t, displacement < 0 ? "-" : absolute ? "" : "+");
+        text_add_hexadecimal(t, (uint64_t)(displacement < 0 ? -displacement : displacement));
+    }
+    text_add(t, "]");
+}
+
+static void add_xmm(struct text *t, unsigned n)
+{
+    text_add(t, "xmm");
+    text_add_decimal(t, n);
 }
 
 void instruction_text(const struct instruction *i, char text[INSTRUCTION_TEXT])
 {
     const struct mnemonic *m = i->mnemonic;
-    text[0] = '\0';
-    add(text, "%s%s ", i->lock ? "lock " : "", m->name);
-    if (m->memory) {
-        if (!m->wide)
-            add(text, "xmm%u, ", i->reg);
-        add_place(text, i);
-    } else if (m->call == CALL_LOAD) {
-        add(text, "xmm%u, xmm%u", i->reg, i->rm);
-    } else {
-        add(text, "%s, %s", names_32[i->reg], names_32[i->rm]);
-    }
+    struct text t;
+    text_start(&t, text, INSTRUCTION_TEXT);
+    text_add(&t, i->lock ? "lock " : "");
+    text_add(&t, m->name);
+    text_add(&t, " ");
+    if (m->call == CALL_ENCODE)
+        text_add(&t, names_32[i->reg]);
+    else if (!m->wide)
+        add_xmm(&t, i->reg);
+    text_add(&t, m->wide ? "" : ", ");
+    if (m->memory)
+        add_place(&t, i);
+    else if (m->call == CALL_LOAD)
+        add_xmm(&t, i->rm);
+    else
+        text_add(&t, names_32[i->rm]);
 }
 
 /* ---- the handle's place */

@@ -8,6 +8,7 @@
 #include "print.h"
 #include "record.h"
 #include "refusal.h"
+#include "text.h"
 #include "value.h"
 
 /* Counts the expectation, and prints it where it is met; where it is not, the caller prints it with what was found. */
@@ -120,14 +121,14 @@ enum { EXCERPT = 16, EXCERPT_TEXT = 2 * EXCERPT + 16 };
 /* Some bytes from there on, or that there are none. */
 static void excerpt(const struct bytes *b, size_t at, char text[EXCERPT_TEXT])
 {
+    struct text t;
+    text_start(&t, text, EXCERPT_TEXT);
     if (at >= b->len) {
-        strcpy(text, "nothing");
+        text_add(&t, "nothing");
         return;
     }
-    for (size_t i = at; i < b->len && i < at + EXCERPT; i++)
-        text += sprintf(text, "%02x", b->data[i]);
-    if (b->len > at + EXCERPT)
-        strcpy(text, "..");
+    text_add_bytes(&t, b->data + at, b->len - at < EXCERPT ? b->len - at : EXCERPT);
+    text_add(&t, b->len > at + EXCERPT ? ".." : "");
 }
 
 /* The first place where they differ, or where the shorter ends. */

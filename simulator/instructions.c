@@ -13,6 +13,14 @@
  * without a register, so that no general register is needed (ModRM with r/m 4, then SIB 25). */
 enum { MODRM_LOAD = 0xD1, MODRM_ENCODE = 0xC1, MODRM_SIB = 0x04, SIB_ABSOLUTE = 0x25 };
 
+const struct mnemonic *mnemonic_named(struct word word)
+{
+    for (size_t i = 0; i < MNEMONICS; i++)
+        if (word_is(word, mnemonics[i].name))
+            return &mnemonics[i];
+    return NULL;
+}
+
 static bool execute_registers(struct simulator *s, const struct mnemonic *m, const struct bytes *random)
 {
     const uint8_t string[] = {0xF3, 0x0F, 0x38, m->opcode, m->call == CALL_LOAD ? MODRM_LOAD : MODRM_ENCODE};
@@ -53,16 +61,21 @@ static void run_load(struct simulator *s, const struct mnemonic *m)
 
 /* ---- ENCODEKEY */
 
+/* One, or 0 where the next word is none. */
+static uint32_t take_restriction(struct simulator *s)
+{
+    for (size_t i = 0; i < RESTRICTIONS; i++)
+        if (accept(&s->line, restrictions[i].name))
+            return restrictions[i].bit;
+    return 0;
+}
+
 static uint32_t take_restrictions(struct simulator *s)
 {
-    uint32_t bits = 0;
+    uint32_t bits = 0, one;
     for (;;)
-        if (accept(&s->line, "cpl0-only"))
-            bits |= KEYLOCKER_RESTRICT_CPL0_ONLY;
-        else if (accept(&s->line, "no-encrypt"))
-            bits |= KEYLOCKER_RESTRICT_NO_ENCRYPT;
-        else if (accept(&s->line, "no-decrypt"))
-            bits |= KEYLOCKER_RESTRICT_NO_DECRYPT;
+        if ((one = take_restriction(s)) != 0)
+            bits |= one;
         else if (accept(&s->line, "restrict"))
             bits |= (uint32_t)take_number(&s->line, "restriction bits", UINT32_MAX);
         else

@@ -3,6 +3,10 @@
 #define INSTRUCTIONS_H
 
 #include "mnemonic.h"
+#include "simulator.h"
+
+/* None for other words. */
+const struct mnemonic *mnemonic_named(struct word word);
 
 /* Behind the mnemonic. */
 void run_instruction(struct simulator *s, const struct mnemonic *m);

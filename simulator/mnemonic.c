@@ -1,6 +1,8 @@
 #include "mnemonic.h"
 
-static const struct mnemonic mnemonics[] = {
+#include "keylocker.h"
+
+const struct mnemonic mnemonics[MNEMONICS] = {
     {"aesenc128kl", CALL_USE, 0xDC, -1, true, 16, false, true},
     {"aesdec128kl", CALL_USE, 0xDD, -1, true, 16, false, false},
     {"aesenc256kl", CALL_USE, 0xDE, -1, true, 32, false, true},
@@ -14,15 +16,11 @@ static const struct mnemonic mnemonics[] = {
     {"loadiwkey", CALL_LOAD, 0xDC, -1, false, 0, false, false},
 };
 
-enum { MNEMONICS = sizeof mnemonics / sizeof *mnemonics };
-
-const struct mnemonic *mnemonic_named(struct word word)
-{
-    for (size_t i = 0; i < MNEMONICS; i++)
-        if (word_is(word, mnemonics[i].name))
-            return &mnemonics[i];
-    return NULL;
-}
+const struct restriction restrictions[RESTRICTIONS] = {
+    {"cpl0-only", KEYLOCKER_RESTRICT_CPL0_ONLY},
+    {"no-encrypt", KEYLOCKER_RESTRICT_NO_ENCRYPT},
+    {"no-decrypt", KEYLOCKER_RESTRICT_NO_DECRYPT},
+};
 
 const struct mnemonic *mnemonic_of(uint8_t opcode, unsigned reg, bool memory)
 {

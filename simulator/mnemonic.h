@@ -2,7 +2,11 @@
 #ifndef MNEMONIC_H
 #define MNEMONIC_H
 
-#include "simulator.h"
+#include <stdbool.h>
+#include <stddef.h>
+#include <stdint.h>
+
+#include "call.h"
 
 struct mnemonic {
     const char *name;
@@ -14,8 +18,17 @@ struct mnemonic {
     bool wide, encrypts;
 };
 
-/* None for other words. */
-const struct mnemonic *mnemonic_named(struct word word);
+enum { MNEMONICS = 11 };
+extern const struct mnemonic mnemonics[MNEMONICS];
+
+/* Words for ENCODEKEY's restrictions. */
+struct restriction {
+    const char *name;
+    uint32_t bit;
+};
+
+enum { RESTRICTIONS = 3 };
+extern const struct restriction restrictions[RESTRICTIONS];
 
 /* None where no instruction has them. */
 const struct mnemonic *mnemonic_of(uint8_t opcode, unsigned reg, bool memory);

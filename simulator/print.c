@@ -7,6 +7,7 @@
 #include "answer.h"
 #include "json.h"
 #include "refusal.h"
+#include "text.h"
 
 enum { TEXT_LIMIT = 180, CUT = 128 };
 
@@ -85,13 +86,6 @@ void print_result(struct simulator *s, const char *text, const struct name *name
     putchar('\n');
 }
 
-static void add_hex(char *text, const uint8_t *data, size_t len)
-{
-    text += strlen(text);
-    for (size_t i = 0; i < len; i++)
-        text += sprintf(text, "%02x", data[i]);
-}
-
 const char *iwkey_text(const struct simulator *s, const uint8_t *iwkey, char room[IWKEY_TEXT])
 {
     static const uint8_t zero[KEYLOCKER_IWKEY_SOURCE];
@@ -102,10 +96,12 @@ const char *iwkey_text(const struct simulator *s, const uint8_t *iwkey, char roo
         if (name->is_iwkey && memcmp(name->value.data, iwkey, KEYLOCKER_IWKEY_SOURCE) == 0)
             return name->text;
     }
-    strcpy(room, "integrity ");
-    add_hex(room, iwkey + KEYLOCKER_IWKEY_INTEGRITY, KEYLOCKER_IWKEY_ENCRYPTION - KEYLOCKER_IWKEY_INTEGRITY);
-    strcat(room, " encryption ");
-    add_hex(room, iwkey + KEYLOCKER_IWKEY_ENCRYPTION, KEYLOCKER_IWKEY_SOURCE - KEYLOCKER_IWKEY_ENCRYPTION);
+    struct text t;
+    text_start(&t, room, IWKEY_TEXT);
+    text_add(&t, "integrity ");
+    text_add_bytes(&t, iwkey + KEYLOCKER_IWKEY_INTEGRITY, KEYLOCKER_IWKEY_ENCRYPTION - KEYLOCKER_IWKEY_INTEGRITY);
+    text_add(&t, " encryption ");
+    text_add_bytes(&t, iwkey + KEYLOCKER_IWKEY_ENCRYPTION, KEYLOCKER_IWKEY_SOURCE - KEYLOCKER_IWKEY_ENCRYPTION);
     return room;
 }
 

@@ -5,11 +5,11 @@
 #include "answer.h"
 
 /* The AAD, 343965-001US A.3.1: restrictions are bits 2:0, the key type bits 27:24; the others are reserved. */
-enum { AAD_SIZE = 16, RESTRICTIONS = 7, TYPE_BYTE = 3, TYPE = 15 };
+enum { AAD_SIZE = 16, RESTRICTION_BITS = 7, TYPE_BYTE = 3, TYPE = 15 };
 
 static bool reserved_set(const uint8_t *aad)
 {
-    unsigned set = (aad[0] & ~RESTRICTIONS) | aad[1] | aad[2] | (aad[TYPE_BYTE] & ~TYPE);
+    unsigned set = (aad[0] & ~RESTRICTION_BITS) | aad[1] | aad[2] | (aad[TYPE_BYTE] & ~TYPE);
     for (int i = TYPE_BYTE + 1; i < AAD_SIZE; i++)
         set |= aad[i];
     return set != 0;

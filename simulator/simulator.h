@@ -7,6 +7,7 @@
 #include <stdint.h>
 
 #include "bytes.h"
+#include "call.h"
 #include "keylocker.h"
 #include "line.h"
 #include "names.h"
@@ -30,10 +31,6 @@ struct cpu {
     uint8_t record[RECORD_ROOM];
     size_t len; /* of the record that is lent */
 };
-
-/* Steps are told apart by what they execute. */
-enum call { CALL_NONE, CALL_POWER_ON, CALL_LOAD, CALL_ENCODE, CALL_USE, CALL_IDLE, CALL_UNKNOWN_STEP, CALL_CTR, CALL_CPUID, CALL_READ, CALL_WRITE, CALL_TAKEN,
-            CALL_SETTLE, CALL_SLEEP, CALL_RESET, CALL_KEYRING_LOOKUP, CALL_KEYRING_ADD };
 
 /* The registers that CPUID writes, in their order there. */
 enum { EAX, EBX, ECX, EDX, CPUID_REGISTERS };
