@@ -27,6 +27,7 @@ BINDIR = $(PREFIX)/bin
 MANDIR = $(PREFIX)/share/man
 DOCDIR = $(PREFIX)/share/doc/keylocker
 LIBKEYLOCKER = target/staticlib/libkeylocker.a
+OBJECTDIR = $(LIBDIR)/keylocker
 
 # all that the libraries are proved and compiled from
 SOURCES := crates.txt $(shell find crates -name '*.rt' -o -name '*.antt')
@@ -42,9 +43,11 @@ KEYRING = keyring keyring_plain measure
 .PHONY: all install uninstall demo bench examples test test-decoder test-machine test-constants test-simulator test-install clean always
 .DELETE_ON_ERROR:
 
-all: build/libkeylocker.a build/keylocker-simulator build/keylocker-simulator.1 build/keylocker-traces.5
+all: build/libkeylocker.a build/keylocker-simulator build/keylocker-simulator.1 build/keylocker-traces.5 $(RUN_BUILT) $(RUN_PAGE)
 
 # ---- for C users
+
+include run/rules.mk
 
 VERSION := $(shell sed -n 's/^.define KEYLOCKER_VERSION "\(.*\)"/\1/p' include/keylocker.h)
 SIMULATOR = $(patsubst simulator/%.c,build/simulator/%.o,$(wildcard simulator/*.c))

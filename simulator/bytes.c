@@ -73,14 +73,3 @@ void put_hex(const uint8_t *data, size_t len)
         fwrite(room, 1, t.len, stdout);
     }
 }
-
-/* A table, because the digits of keys and blocks are what a branch predicts worst. Values are one too large, so that 0 is "none". */
-static const uint8_t digit_values[256] = {
-    ['0'] = 1,  ['1'] = 2,  ['2'] = 3,  ['3'] = 4,  ['4'] = 5,  ['5'] = 6,  ['6'] = 7,  ['7'] = 8,  ['8'] = 9,  ['9'] = 10, ['a'] = 11,
-    ['b'] = 12, ['c'] = 13, ['d'] = 14, ['e'] = 15, ['f'] = 16, ['A'] = 11, ['B'] = 12, ['C'] = 13, ['D'] = 14, ['E'] = 15, ['F'] = 16,
-};
-
-int hex_digit(char c)
-{
-    return digit_values[(uint8_t)c] - 1;
-}

@@ -29,7 +29,4 @@ void bytes_print(struct bytes *b, const char *format, va_list arguments) __attri
 /* In hexadecimal, to standard output. */
 void put_hex(const uint8_t *data, size_t len);
 
-/* The value of a hexadecimal digit, -1 for another character. */
-int hex_digit(char c);
-
 #endif

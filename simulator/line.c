@@ -9,6 +9,7 @@
 #include "bytes.h"
 #include "output.h"
 #include "progress.h"
+#include "text.h"
 
 int shown(size_t len)
 {

@@ -22,4 +22,7 @@ void text_add_decimal(struct text *t, uint64_t number);
 /* Two digits for each byte. */
 void text_add_bytes(struct text *t, const uint8_t *data, size_t len);
 
+/* The value of a hexadecimal digit, -1 for another character. */
+int hex_digit(char c);
+
 #endif

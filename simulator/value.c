@@ -5,6 +5,7 @@
 #include <string.h>
 
 #include "record.h"
+#include "text.h"
 
 /* Words that stand behind bytes in some statement. None of them is a name or hexadecimal. */
 static const char *const stops[] = {"->", "=", "random", "encryption", "no-backup", "cpl0-only", "no-encrypt", "no-decrypt", "restrict"};

@@ -1,0 +1,117 @@
+/* Functions of the C library by which a program sets actions and masks of signals. Those that are owned (actions.h) keep our action, and are never blocked. */
+
+#include "interpose.h"
+
+#include <errno.h>
+#include <poll.h>
+#include <signal.h>
+#include <stddef.h>
+#include <sys/epoll.h>
+#include <sys/select.h>
+
+#include "actions.h"
+
+/* ---- actions */
+
+EXPORTED int sigaction(int signal, const struct sigaction *action, struct sigaction *old)
+{
+    REAL(sigaction);
+    struct sigaction masked;
+    if (actions_owned(signal)) {
+        actions_exchange(signal, action, old);
+        return 0;
+    }
+    if (action != NULL) {
+        masked = *action;
+        put_bits(&masked.sa_mask, actions_mask(bits_of(&action->sa_mask)));
+    }
+    return real(signal, action == NULL ? NULL : &masked, old);
+}
+
+static sighandler_t exchange_handler(int signal, sighandler_t handler, int flags)
+{
+    struct sigaction action = {.sa_handler = handler, .sa_flags = flags}, old;
+    actions_exchange(signal, &action, &old);
+    return old.sa_handler;
+}
+
+EXPORTED sighandler_t signal(int signal_number, sighandler_t handler)
+{
+    REAL(signal);
+    return actions_owned(signal_number) ? exchange_handler(signal_number, handler, SA_RESTART) : real(signal_number, handler);
+}
+
+EXPORTED sighandler_t __sysv_signal(int signal, sighandler_t handler)
+{
+    REAL(__sysv_signal);
+    return actions_owned(signal) ? exchange_handler(signal, handler, SA_RESETHAND | SA_NODEFER) : real(signal, handler);
+}
+
+/* Other names of the same. */
+EXPORTED sighandler_t bsd_signal(int signal_number, sighandler_t handler)
+{
+    return signal(signal_number, handler);
+}
+
+EXPORTED sighandler_t ssignal(int signal_number, sighandler_t handler)
+{
+    return signal(signal_number, handler);
+}
+
+EXPORTED sighandler_t sysv_signal(int signal, sighandler_t handler)
+{
+    return __sysv_signal(signal, handler);
+}
+
+/* ---- masks */
+
+static const sigset_t *without_owned(const sigset_t *set, sigset_t *room)
+{
+    if (set == NULL)
+        return NULL;
+    *room = *set;
+    put_bits(room, actions_mask(bits_of(set)));
+    return room;
+}
+
+EXPORTED int pthread_sigmask(int how, const sigset_t *set, sigset_t *old)
+{
+    REAL(pthread_sigmask);
+    sigset_t room;
+    return real(how, how == SIG_UNBLOCK ? set : without_owned(set, &room), old);
+}
+
+EXPORTED int sigprocmask(int how, const sigset_t *set, sigset_t *old)
+{
+    REAL(sigprocmask);
+    sigset_t room;
+    return real(how, how == SIG_UNBLOCK ? set : without_owned(set, &room), old);
+}
+
+EXPORTED int sigsuspend(const sigset_t *set)
+{
+    REAL(sigsuspend);
+    sigset_t room;
+    return real(without_owned(set, &room));
+}
+
+EXPORTED int pselect(int count, fd_set *readable, fd_set *writable, fd_set *others, const struct timespec *timeout, const sigset_t *set)
+{
+    REAL(pselect);
+    sigset_t room;
+    return real(count, readable, writable, others, timeout, without_owned(set, &room));
+}
+
+EXPORTED int ppoll(struct pollfd *fds, nfds_t count, const struct timespec *timeout, const sigset_t *set)
+{
+    REAL(ppoll);
+    sigset_t room;
+    return real(fds, count, timeout, without_owned(set, &room));
+}
+
+EXPORTED int epoll_pwait(int fd, struct epoll_event *events, int most, int timeout, const sigset_t *set)
+{
+    REAL(epoll_pwait);
+    sigset_t room;
+    return real(fd, events, most, timeout, without_owned(set, &room));
+}

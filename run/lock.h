@@ -1,0 +1,28 @@
+/* A lock in memory that processes share, for short sections in which all signals are masked. The kernel frees it where its holder dies in one: it is a robust
+ * futex (Linux, Documentation/locking/robust-futex-ABI.rst). */
+#ifndef LOCK_H
+#define LOCK_H
+
+#include <stdatomic.h>
+#include <stdbool.h>
+#include <stdint.h>
+
+struct lock {
+    _Atomic uint32_t word; /* the holder's thread, and two bits of the kernel's; 0 is free */
+};
+
+/* What the holder keeps between taking and freeing. */
+struct holding {
+    struct robust_list_head *head; /* of this thread, or none */
+    void *pending;                 /* as it was there */
+    bool held;
+};
+
+/* False where it was not to be had for a while: its holder is stopped, say by Ctrl-Z. */
+bool lock_take(struct lock *lock, struct holding *holding);
+void lock_free(struct lock *lock, struct holding *holding);
+
+/* Of memory that nobody has locked: what an earlier boot or a copy of a file left there goes. */
+void lock_clear(struct lock *lock);
+
+#endif

@@ -1,0 +1,155 @@
+/* Runs a program with an object loaded in front of its libraries, which executes the Key Locker instructions that it traps at. */
+
+#include <errno.h>
+#include <fcntl.h>
+#include <limits.h>
+#include <stdio.h>
+#include <stdlib.h>
+#include <string.h>
+#include <sys/stat.h>
+#include <time.h>
+#include <unistd.h>
+
+#include "counts.h"
+#include "environment.h"
+#include "fail.h"
+#include "iwkey.h"
+#include "launch.h"
+#include "machine_open.h"
+#include "options.h"
+#include "scratch.h"
+#include "text.h"
+#include "where.h"
+
+/* ---- files */
+
+static void set_path(const char *name, const char *path)
+{
+    char *absolute = realpath(path, NULL);
+    if (absolute == NULL || setenv(name, absolute, 1) < 0)
+        fail(EXIT_OURS, "%s: %s", path, strerror(errno));
+    free(absolute);
+}
+
+static void open_machine(const struct options *options, struct machine_file *held)
+{
+    uint8_t iwkey[IWKEY_BYTES];
+    const char *path = options->machine == NULL ? scratch_file("machine") : options->machine;
+    if (options->iwkey != NULL)
+        iwkey_read(options->iwkey, iwkey);
+    machine_open(path, options->iwkey == NULL ? NULL : iwkey, held);
+    explicit_bzero(iwkey, sizeof iwkey);
+    set_path(ENVIRONMENT_MACHINE, path);
+}
+
+/* A new one, of the owner's alone. It begins with the machine as it is now. */
+static void start_trace(const char *path, const struct machine_file *held, char **program)
+{
+    char digits[2 * KEYLOCKER_MACHINE_SIZE + 1];
+    struct text t;
+    int fd = open(path, O_WRONLY | O_CREAT | O_TRUNC | O_CLOEXEC, 0600);
+    FILE *file = fd < 0 ? NULL : fdopen(fd, "w");
+    if (file == NULL || fchmod(fd, 0600) < 0)
+        fail(EXIT_OURS, "%s: %s", path, strerror(errno));
+    text_start(&t, digits, sizeof digits);
+    text_add_bytes(&t, held->block, sizeof held->block);
+    fputs("# keylocker-run " KEYLOCKER_VERSION ":", file);
+    for (; *program != NULL; program++)
+        for (const char *c = fputs(" ", file) < 0 ? "" : *program; *c != '\0'; c++)
+            fputc((unsigned char)*c < ' ' ? '?' : *c, file);
+    fprintf(file, "\n# This trace holds the IWKey, and keys that were encoded. keylocker-simulator replays it.\nmachine = %s\n", digits);
+    explicit_bzero(digits, sizeof digits);
+    if (fclose(file) != 0)
+        fail(EXIT_OURS, "%s: %s", path, strerror(errno));
+    fprintf(stderr, "keylocker-run: the trace in %s holds the IWKey and the keys that are encoded\n", path);
+    set_path(ENVIRONMENT_TRACE, path);
+}
+
+/* ---- counts */
+
+static struct counts *start_counts(void)
+{
+    const char *path = scratch_file("counts");
+    int fd = open(path, O_RDWR | O_CREAT | O_EXCL | O_CLOEXEC, 0600);
+    struct counts *counts = fd < 0 || ftruncate(fd, sizeof(struct counts)) < 0 ? NULL : counts_map(path);
+    if (counts == NULL)
+        fail(EXIT_OURS, "%s: %s", path, strerror(errno));
+    close(fd);
+    set_path(ENVIRONMENT_COUNTS, path);
+    return counts;
+}
+
+static void print_counts(const struct counts *c)
+{
+    uint64_t all = 0;
+    for (size_t i = 0; i < MNEMONICS; i++)
+        all += c->done[i];
+    fprintf(stderr, "keylocker-run: %llu instructions emulated\n", (unsigned long long)all);
+    for (size_t i = 0; i < MNEMONICS; i++) {
+        if (c->done[i] == 0 && c->signals[i] == 0)
+            continue;
+        fprintf(stderr, "keylocker-run:   %-15s %llu", mnemonics[i].name, (unsigned long long)c->done[i]);
+        if (c->failed[i] > 0)
+            fprintf(stderr, ", of which %llu left ZF 1", (unsigned long long)c->failed[i]);
+        if (c->signals[i] > 0)
+            fprintf(stderr, "; %llu more became a signal", (unsigned long long)c->signals[i]);
+        fputc('\n', stderr);
+    }
+}
+
+/* ---- the object */
+
+/* Beside this program, where it was built, or in the folder that it was installed in. */
+static char *find_object(void)
+{
+    static const char *const folders[] = {"", OBJECT_FOLDER "/"};
+    char own[PATH_MAX], *object;
+    ssize_t len = readlink("/proc/self/exe", own, sizeof own - 1);
+    if (len < 0)
+        fail(EXIT_OURS, "/proc/self/exe: %s", strerror(errno));
+    while (len > 0 && own[len - 1] != '/')
+        len--;
+    for (size_t i = 0; i < sizeof folders / sizeof *folders; i++) {
+        if (asprintf(&object, "%.*s%skeylocker-run.so", (int)len, own, folders[i]) < 0)
+            fail(EXIT_OURS, "out of memory");
+        char *absolute = realpath(object, NULL);
+        if (absolute != NULL)
+            return absolute;
+    }
+    fail(EXIT_OURS, "keylocker-run.so, which belongs beside it, is not there: %s", object);
+}
+
+/* In front of what the environment has already. */
+static void preload(void)
+{
+    const char *object = find_object(), *others = getenv("LD_PRELOAD");
+    char *all;
+    if (strpbrk(object, " :") != NULL)
+        fail(EXIT_OURS, "%s: the dynamic linker takes no blank and no colon in this path", object);
+    if (others != NULL && strncmp(others, object, strlen(object)) == 0)
+        return;
+    if (asprintf(&all, "%s%s%s", object, others == NULL ? "" : ":", others == NULL ? "" : others) < 0 || setenv("LD_PRELOAD", all, 1) < 0)
+        fail(EXIT_OURS, "out of memory");
+    free(all);
+}
+
+int main(int argc, char **argv)
+{
+    struct options options;
+    struct machine_file held;
+    struct counts *counts = NULL;
+    take_options(argc, argv, &options);
+    look_at_program(options.program[0]);
+    open_machine(&options, &held);
+    if (options.trace != NULL)
+        start_trace(options.trace, &held, options.program);
+    explicit_bzero(&held, sizeof held);
+    if (options.count)
+        counts = start_counts();
+    preload();
+    int status = run_program(options.program);
+    if (counts != NULL)
+        print_counts(counts);
+    scratch_remove(); // a signal that ends this leaves it no time
+    end_as(status);
+}

@@ -1,0 +1,132 @@
+#include "stacks.h"
+
+#include <dlfcn.h>
+#include <pthread.h>
+#include <signal.h>
+#include <stdint.h>
+#include <sys/mman.h>
+
+#include "actions.h"
+#include "interpose.h"
+#include "system.h"
+
+/* A signal's frame has all vector registers: some 3 KiB, with AMX 11. The program's own handlers for the signals that are taken here run on it, too. */
+enum { GUARD = 4096, OWN = 32768, SIGNALS_ROOM = 131072 };
+
+/* What a thread has: from below a guard, the library's stack, a guard, the stack for signals. */
+struct stacks {
+    uint8_t guard[GUARD], own[OWN], second_guard[GUARD], signals[SIGNALS_ROOM];
+};
+
+static __thread struct stacks *stacks __attribute__((tls_model("initial-exec")));
+
+/* None where there is no memory. No core file gets them: keys are on them. */
+static struct stacks *stacks_make(void)
+{
+    long made = SYSTEM(SYS_mmap, 0, sizeof(struct stacks), PROT_READ | PROT_WRITE, MAP_PRIVATE | MAP_ANONYMOUS | MAP_NORESERVE, -1, 0);
+    if (made < 0 && made >= -4095)
+        return NULL;
+    struct stacks *s = (struct stacks *)made;
+    SYSTEM(SYS_mprotect, s->guard, sizeof s->guard, PROT_NONE);
+    SYSTEM(SYS_mprotect, s->second_guard, sizeof s->second_guard, PROT_NONE);
+    SYSTEM(SYS_madvise, s, sizeof *s, MADV_DONTDUMP);
+    return s;
+}
+
+static void stacks_free(struct stacks *s)
+{
+    SYSTEM(SYS_munmap, s, sizeof *s);
+}
+
+/* ---- signals */
+
+static void signals_on(struct stacks *s)
+{
+    const stack_t stack = {.ss_sp = s->signals, .ss_size = sizeof s->signals};
+    stack_t old;
+    stacks = s;
+    if (SYSTEM(SYS_sigaltstack, 0, &old) == 0 && old.ss_flags & SS_DISABLE)
+        SYSTEM(SYS_sigaltstack, &stack, 0);
+}
+
+static void signals_off(struct stacks *s)
+{
+    const stack_t none = {.ss_flags = SS_DISABLE};
+    stack_t old;
+    stacks = NULL;
+    if (SYSTEM(SYS_sigaltstack, 0, &old) == 0 && old.ss_sp == s->signals)
+        SYSTEM(SYS_sigaltstack, &none, 0);
+    stacks_free(s);
+}
+
+void stacks_start(void)
+{
+    struct stacks *s = stacks_make();
+    if (s != NULL)
+        signals_on(s);
+}
+
+/* ---- calls */
+
+static void call_on(uint8_t *top, void (*function)(void *argument), void *argument)
+{
+    __asm__ volatile("mov %%rsp, %%rbx\n\t"
+                     "mov %1, %%rsp\n\t"
+                     "call *%2\n\t"
+                     "mov %%rbx, %%rsp"
+                     : "+D"(argument)
+                     : "r"(top), "r"(function)
+                     : "rax", "rbx", "rcx", "rdx", "rsi", "r8", "r9", "r10", "r11", "xmm0", "xmm1", "xmm2", "xmm3", "xmm4", "xmm5", "xmm6", "xmm7", "xmm8",
+                       "xmm9", "xmm10", "xmm11", "xmm12", "xmm13", "xmm14", "xmm15", "cc", "memory");
+}
+
+/* A thread that was not made by pthread_create has stacks for the one call. */
+void call_on_own_stack(void (*function)(void *argument), void *argument)
+{
+    struct stacks *s = stacks == NULL ? stacks_make() : stacks;
+    if (s == NULL)
+        function(argument);
+    else
+        call_on(s->own + sizeof s->own, function, argument);
+    if (s != NULL && s != stacks)
+        stacks_free(s);
+}
+
+/* ---- threads */
+
+struct beginning {
+    void *(*routine)(void *argument);
+    void *argument;
+};
+
+static void end(void *own)
+{
+    signals_off(own);
+}
+
+/* What it is to do stands at the top of its stack, where no call has been yet. A thread may have been given a mask by its attributes. */
+static void *begin(void *own)
+{
+    struct stacks *s = own;
+    struct beginning b = ((struct beginning *)(s->own + sizeof s->own))[-1];
+    void *result;
+    signals_on(s);
+    kernel_sigmask(SIG_UNBLOCK, ~actions_mask(ALL_SIGNALS));
+    pthread_cleanup_push(end, s);
+    result = b.routine(b.argument);
+    pthread_cleanup_pop(1);
+    return result;
+}
+
+EXPORTED int pthread_create(pthread_t *thread, const pthread_attr_t *attributes, void *(*routine)(void *), void *argument)
+{
+    REAL(pthread_create);
+    struct stacks *s = stacks_make();
+    if (s == NULL)
+        return real(thread, attributes, routine, argument);
+    ((struct beginning *)(s->own + sizeof s->own))[-1] = (struct beginning){routine, argument};
+    int error = real(thread, attributes, begin, s);
+    if (error != 0)
+        stacks_free(s);
+    return error;
+}
