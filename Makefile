@@ -1,4 +1,5 @@
-# make           prove the library, with a line for each crate, and build what make install installs, in build/: library, simulator and manual pages
+# make           prove the library, with a line for each crate, and build what make install installs, in build/: library, simulator, keylocker-run and manual
+#                pages
 # make LIBKEYLOCKER=FILE ..  take FILE, a libkeylocker.a that was made elsewhere, in place of one proved here: without the Rattle kit
 # make install   install them with the header, files for pkg-config and CMake, documents and examples, below $(DESTDIR)$(PREFIX); PREFIX is /usr/local
 #                unless given, and LIBDIR, INCLUDEDIR, BINDIR, MANDIR and DOCDIR are folders below it unless given
@@ -15,6 +16,7 @@
 # make test-constants  which tables stand in the library, and how many bytes of read-only data
 # make test-simulator  the simulator on traces that the model in Python checks, over pipes and at a terminal, as JSON; counter calls through it against
 #                NIST's vectors and OpenSSL
+# make test-run  keylocker-run, with programs that are compiled with the compiler's intrinsics of Key Locker
 # make test-install  the header, what is installed and removed, with programs that use it, the manual pages, the examples, and builds without the kit
 # make clean     remove build/; what rt made is in target/
 
@@ -40,16 +42,16 @@ KEYWRAP = keywrap $(WRAPPING)
 KEYLOCKER = keylocker $(WRAPPING)
 KEYRING = keyring keyring_plain measure
 
-.PHONY: all install uninstall demo bench examples test test-decoder test-machine test-constants test-simulator test-install clean always
+.PHONY: all install uninstall demo bench examples test test-decoder test-machine test-constants test-simulator test-run test-install clean always
 .DELETE_ON_ERROR:
 
-all: build/libkeylocker.a build/keylocker-simulator build/keylocker-simulator.1 build/keylocker-traces.5 $(RUN_BUILT) $(RUN_PAGE)
+all: build/libkeylocker.a build/keylocker-simulator build/keylocker-simulator.1 build/keylocker-traces.5
 
 # ---- for C users
 
+VERSION := $(shell sed -n 's/^.define KEYLOCKER_VERSION "\(.*\)"/\1/p' include/keylocker.h)
 include run/rules.mk
 
-VERSION := $(shell sed -n 's/^.define KEYLOCKER_VERSION "\(.*\)"/\1/p' include/keylocker.h)
 SIMULATOR = $(patsubst simulator/%.c,build/simulator/%.o,$(wildcard simulator/*.c))
 
 # always: LIBKEYLOCKER may be another file than last time; where it has the same bytes, what was linked with it stays
@@ -70,18 +72,23 @@ build/simulator/scenario.inc: simulator/scenario.trace
 	od -An -v -tx1 $< | sed 's/ \(..\)/0x\1,/g' >$@
 
 build/keylocker-simulator.1: build/keylocker-simulator tools/manual.py
-	./build/keylocker-simulator --help | python3 tools/manual.py simulator $(VERSION) >$@
+	./build/keylocker-simulator --help | python3 tools/manual.py keylocker-simulator $(VERSION) >$@
 
 build/keylocker-traces.5: simulator/TRACES.md tools/manual.py include/keylocker.h
 	@mkdir -p build
 	python3 tools/manual.py traces $(VERSION) <$< >$@
 
-# What is installed, with its mode and folder, by which make uninstall removes it, too. $1 is done with files, $2 with templates.
+# What is installed, with its mode and folder, by which make uninstall removes it, too. $1 is done with files, $2 with templates, $3 with links. keylocker-run
+# looks for its object beside itself.
 define each_installed
 $(call $1,644,$(LIBDIR),build/libkeylocker.a)
 $(call $1,644,$(INCLUDEDIR),include/keylocker.h)
 $(call $1,755,$(BINDIR),build/keylocker-simulator)
 $(call $1,644,$(MANDIR)/man1,build/keylocker-simulator.1)
+$(if $(RUN_BUILT),$(call $1,755,$(OBJECTDIR),build/keylocker-run))
+$(if $(RUN_BUILT),$(call $1,644,$(OBJECTDIR),build/keylocker-run.so))
+$(if $(RUN_BUILT),$(call $3,,$(BINDIR),$(OBJECTDIR)/keylocker-run))
+$(if $(RUN_BUILT),$(call $1,644,$(MANDIR)/man1,build/keylocker-run.1))
 $(call $1,644,$(MANDIR)/man5,build/keylocker-traces.5)
 $(call $1,644,$(DOCDIR),simulator/TRACES.md docs/THREATS.md)
 $(call $1,644,$(DOCDIR)/examples,$(wildcard examples/*.c examples/*.py))
@@ -96,17 +103,18 @@ FILL = sed -e 's|@PREFIX@|$(PREFIX)|; s|@LIBDIR@|$(LIBDIR)|; s|@INCLUDEDIR@|$(IN
 installed = "$(DESTDIR)$1/$(notdir $(2:.in=))"
 put = install -d "$(DESTDIR)$2" && install -m $1 $3 "$(DESTDIR)$2/"
 fill = install -d "$(DESTDIR)$2" && $(FILL) $3 >$(call installed,$2,$3) && chmod $1 $(call installed,$2,$3)
+link = install -d "$(DESTDIR)$2" && ln -sf "$$(realpath -m --relative-to="$2" "$3")" "$(DESTDIR)$2/"
 drop = rm -f $(foreach file,$3,$(call installed,$2,$(file)))
 
 # neither sed nor the .pc file would take these as they are
 install: all
 	@case '$(PREFIX)$(LIBDIR)$(INCLUDEDIR)' in *[\ \&\|\\]*) echo 'make install: no blanks, &, | or \ in PREFIX, LIBDIR and INCLUDEDIR' >&2; exit 1;; esac
-	$(call each_installed,put,fill)
+	$(call each_installed,put,fill,link)
 
 # of the folders only those that no other package has files in
 uninstall:
-	$(call each_installed,drop,drop)
-	rmdir "$(DESTDIR)$(DOCDIR)/examples" "$(DESTDIR)$(DOCDIR)" "$(DESTDIR)$(LIBDIR)/cmake/keylocker" 2>/dev/null || true
+	$(call each_installed,drop,drop,drop)
+	rmdir "$(DESTDIR)$(DOCDIR)/examples" "$(DESTDIR)$(DOCDIR)" "$(DESTDIR)$(LIBDIR)/cmake/keylocker" "$(DESTDIR)$(OBJECTDIR)" 2>/dev/null || true
 
 demo: build/keylocker-simulator
 	@./build/keylocker-simulator
@@ -119,6 +127,9 @@ test-simulator: all
 	python3 tests/simulator.py
 	python3 tests/dialogue.py
 	python3 tests/counter.py
+
+test-run: all
+	python3 tests/keylocker_run.py
 
 test-install: all
 	python3 tests/install.py

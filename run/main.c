@@ -19,7 +19,6 @@
 #include "options.h"
 #include "scratch.h"
 #include "text.h"
-#include "where.h"
 
 /* ---- files */
 
@@ -99,38 +98,33 @@ static void print_counts(const struct counts *c)
 
 /* ---- the object */
 
-/* Beside this program, where it was built, or in the folder that it was installed in. */
+/* Beside this program, in the folder that it was built or installed in. */
 static char *find_object(void)
 {
-    static const char *const folders[] = {"", OBJECT_FOLDER "/"};
     char own[PATH_MAX], *object;
-    ssize_t len = readlink("/proc/self/exe", own, sizeof own - 1);
-    if (len < 0)
-        fail(EXIT_OURS, "/proc/self/exe: %s", strerror(errno));
-    while (len > 0 && own[len - 1] != '/')
-        len--;
-    for (size_t i = 0; i < sizeof folders / sizeof *folders; i++) {
-        if (asprintf(&object, "%.*s%skeylocker-run.so", (int)len, own, folders[i]) < 0)
-            fail(EXIT_OURS, "out of memory");
-        char *absolute = realpath(object, NULL);
-        if (absolute != NULL)
-            return absolute;
-    }
-    fail(EXIT_OURS, "keylocker-run.so, which belongs beside it, is not there: %s", object);
+    ssize_t len = readlink("/proc/self/exe", own, sizeof own);
+    if (len < 0 || len == sizeof own)
+        fail(EXIT_OURS, "/proc/self/exe: %s", strerror(len < 0 ? errno : ENAMETOOLONG));
+    if (asprintf(&object, "%.*s.so", (int)len, own) < 0)
+        fail(EXIT_OURS, "out of memory");
+    if (access(object, R_OK) < 0)
+        fail(EXIT_OURS, "%s, which belongs beside it: %s", object, strerror(errno));
+    return object;
 }
 
 /* In front of what the environment has already. */
 static void preload(void)
 {
-    const char *object = find_object(), *others = getenv("LD_PRELOAD");
-    char *all;
+    const char *others = getenv("LD_PRELOAD");
+    char *object = find_object(), *all;
     if (strpbrk(object, " :") != NULL)
         fail(EXIT_OURS, "%s: the dynamic linker takes no blank and no colon in this path", object);
     if (others != NULL && strncmp(others, object, strlen(object)) == 0)
-        return;
+        return; // a run inside of another
     if (asprintf(&all, "%s%s%s", object, others == NULL ? "" : ":", others == NULL ? "" : others) < 0 || setenv("LD_PRELOAD", all, 1) < 0)
         fail(EXIT_OURS, "out of memory");
     free(all);
+    free(object);
 }
 
 int main(int argc, char **argv)

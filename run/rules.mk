@@ -4,8 +4,10 @@ RUN_SHARED = mnemonic decode text
 RUN_FRONT = main options iwkey machine_open machine_file lock scratch launch counts fail
 RUN_OBJECT = object emulate fetch memory machine machine_file lock stacks actions interpose cpuid trace counts say
 RUN_HEADERS = $(wildcard run/*.h simulator/*.h) include/keylocker.h
-RUN_FLAGS = $(CFLAGS) -D_GNU_SOURCE -fPIC -fvisibility=hidden -Iinclude -Isimulator -Ibuild/run
-RUN_BUILT = $(if $(filter x86_64-Linux,$(shell uname -m)-$(shell uname -s)),build/keylocker-run build/keylocker-run.so)
+RUN_FLAGS = $(CFLAGS) -D_GNU_SOURCE -fPIC -fvisibility=hidden -Iinclude -Isimulator
+RUN_BUILT = $(if $(filter x86_64-Linux,$(shell uname -m)-$(shell uname -s)),build/keylocker-run build/keylocker-run.so build/keylocker-run.1)
+
+all: $(RUN_BUILT)
 
 build/keylocker-run: $(patsubst %,build/run/%.o,$(RUN_FRONT) $(RUN_SHARED)) build/libkeylocker.a
 	$(CC) $(CFLAGS) -o $@ $^
@@ -15,6 +17,9 @@ build/keylocker-run: $(patsubst %,build/run/%.o,$(RUN_FRONT) $(RUN_SHARED)) buil
 build/keylocker-run.so: $(patsubst %,build/run/%.o,$(RUN_OBJECT) $(RUN_SHARED)) build/libkeylocker.a
 	$(CC) $(CFLAGS) -shared -Wl,-z,now -Wl,-z,initfirst -Wl,--exclude-libs,ALL -o $@ $^ -ldl -lpthread
 
+build/keylocker-run.1: build/keylocker-run tools/manual.py
+	./build/keylocker-run --help | python3 tools/manual.py keylocker-run $(VERSION) >$@
+
 build/run/%.o: run/%.c $(RUN_HEADERS)
 	@mkdir -p build/run
 	$(CC) $(RUN_FLAGS) -c -o $@ $<
@@ -22,10 +27,3 @@ build/run/%.o: run/%.c $(RUN_HEADERS)
 build/run/%.o: simulator/%.c $(RUN_HEADERS)
 	@mkdir -p build/run
 	$(CC) $(RUN_FLAGS) -c -o $@ $<
-
-# Where the object is, from where the program is; they may be moved together.
-build/run/main.o: build/run/where.h
-build/run/where.h: always
-	@mkdir -p build/run
-	@echo '#define OBJECT_FOLDER "'"$$(realpath -m --relative-to='$(BINDIR)' '$(OBJECTDIR)')"'"' >$@.new
-	@cmp -s $@.new $@ && rm $@.new || mv $@.new $@

@@ -16,6 +16,8 @@ import key_locker
 from harness import HEADER, PROGRAM, ROOT, STRICT, command, must, need
 
 LIBRARY = ROOT / "build/libkeylocker.a"
+RUN = ROOT / "build/keylocker-run"
+RUNS = RUN.exists()  # it is for Linux on x86-64
 VERSION = re.search('KEYLOCKER_VERSION "(.*)"', HEADER.read_text())[1]
 FIPS_197_C1 = "69c4e0d86a7b0430d8cdb78070b4c55a"
 PROBED_HANDLE = key_locker.wrap(b"\x5a" * 16, b"\x5a" * 32, bytes(16), b"\x2b" * 16).hex()
@@ -143,13 +145,14 @@ OTHER_FOLDERS = {
 INSTALLED = {
     "LIBDIR": [
         "libkeylocker.a",
+        *["keylocker/keylocker-run", "keylocker/keylocker-run.so"] * RUNS,
         "pkgconfig/keylocker.pc",
         "cmake/keylocker/keylocker-config.cmake",
         "cmake/keylocker/keylocker-config-version.cmake",
     ],
     "INCLUDEDIR": ["keylocker.h"],
-    "BINDIR": ["keylocker-simulator"],
-    "MANDIR": ["man1/keylocker-simulator.1", "man5/keylocker-traces.5"],
+    "BINDIR": ["keylocker-simulator", *["keylocker-run"] * RUNS],
+    "MANDIR": ["man1/keylocker-simulator.1", "man5/keylocker-traces.5", *["man1/keylocker-run.1"] * RUNS],
     "DOCDIR": ["TRACES.md", "THREATS.md", "examples/seal.c", "examples/probe.c", "examples/large_guest.c", "examples/coprocess.py"],
 }
 
@@ -166,7 +169,8 @@ def found(stage):
 
 
 def wanted(folders):
-    return {f"{folders[name]}/{file}": oct(0o755 if name == "BINDIR" else 0o644) for name, files in INSTALLED.items() for file in files}
+    programs = ["keylocker-simulator", "keylocker-run"]
+    return {f"{folders[name]}/{file}": oct(0o755 if Path(file).name in programs else 0o644) for name, files in INSTALLED.items() for file in files}
 
 
 def flags_of(pc, prefix):
@@ -196,11 +200,20 @@ def test_install(tmp):
         must(command("gcc", "-std=c11", *STRICT, source, "-o", "example", *flags, cwd=tmp), 0, flags)
         need(must(command(tmp / "example"), 0, example).stdout == printed, example, "prints something else")
     need(must(command(prefix / "bin/keylocker-simulator"), 0, "installed simulator").stdout == command(PROGRAM).stdout, "installed simulator")
+    need_object(prefix / "bin", prefix / "lib")
+
+
+def need_object(bin, lib):
+    """An installed keylocker-run finds the object that was installed with it."""
+    if RUNS:
+        printed = must(command(bin / "keylocker-run", "printenv", "LD_PRELOAD"), 0, "installed keylocker-run").stdout
+        need(printed == f"{lib}/keylocker/keylocker-run.so\n", printed)
 
 
 def test_other_folders(tmp):
     prefix = install(tmp / "stage", OTHER_FOLDERS)
     need(found(tmp / "stage") == wanted(OTHER_FOLDERS), found(tmp / "stage"))
+    need_object(prefix / "libexec", prefix / "lib/x86_64-linux-gnu")
     pc = (prefix / "lib/x86_64-linux-gnu/pkgconfig/keylocker.pc").read_text()
     need("\nlibdir=${prefix}/lib/x86_64-linux-gnu\nincludedir=/usr/include/kl\n" in pc, pc)
 
@@ -323,12 +336,15 @@ def test_manual(tmp):
     if shutil.which("groff") is None:
         return "no groff here"
     pages = [install(tmp / "stage") / "share/man" / page for page in INSTALLED["MANDIR"]]
-    need([rendered(page, "utf8").stderr for page in pages] == ["", ""], "warnings:", *[rendered(page, "utf8").stderr for page in pages])
-    simulator, traces = [rendered(page, "ascii").stdout for page in pages]
+    warnings = [rendered(page, "utf8").stderr for page in pages]
+    need(warnings == [""] * len(pages), "warnings:", *warnings)
+    simulator, traces, *run = [rendered(page, "ascii").stdout for page in pages]
 
-    usage, *parts = command(PROGRAM, "--help").stdout.replace("simulator/TRACES.md", "keylocker-traces(5)").split("\n\n")
-    for part in [*usage.removeprefix("usage: ").splitlines(), *parts]:
-        need(flat(part.removeprefix("Exit status: ")) in flat(simulator), "keylocker-simulator.1 does not have", part)
+    for program, page in [(PROGRAM, simulator), *[(RUN, *run)] * RUNS]:
+        usage, *parts = command(program, "--help").stdout.replace("simulator/TRACES.md", "keylocker-traces(5)").split("\n\n")
+        for part in [*usage.removeprefix("usage: ").splitlines(), *parts]:
+            here = part.startswith("Here: ")  # is of the machine that it was printed on
+            need((flat(part.removeprefix("Exit status: ")) in flat(page)) != here, "the page of", program, "and", part)
 
     language = (ROOT / "simulator/TRACES.md").read_text()
     for line in [line for block in re.findall(r"^```\w*\n(.*?)^```$", language, re.S | re.M) for line in block.splitlines()]:

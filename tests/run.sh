@@ -15,5 +15,5 @@ rm -f build/ci.passed
 { rt ci && touch build/ci.passed; } | tee build/ci.log
 [ -e build/ci.passed ]
 
-make -j2 -Otarget test-host test-valgrind test-faults test-stack test-constants test-simulator test-install
+make -j2 -Otarget test-host test-valgrind test-faults test-stack test-constants test-simulator test-run test-install
 tail -n 1 build/ci.log

@@ -1,12 +1,14 @@
 #!/usr/bin/env python3
 """Makes the manual pages out of texts that stand elsewhere, so that nothing is written twice.
 
-  manual.py simulator VERSION  keylocker-simulator(1), from the simulator's help on standard input
-  manual.py traces VERSION     keylocker-traces(5), from simulator/TRACES.md on standard input
+  manual.py keylocker-simulator VERSION  keylocker-simulator(1), from that program's help on standard input
+  manual.py keylocker-run VERSION        the same of keylocker-run(1)
+  manual.py traces VERSION               keylocker-traces(5), from simulator/TRACES.md on standard input
 
 Of Markdown it knows what TRACES.md uses: headings, paragraphs, lists, tables, code in fences or indented; and in a line code, bold and links.
 """
 
+import functools
 import re
 import sys
 import textwrap
@@ -70,7 +72,13 @@ def page(name, number, version, purpose, body, see_also):
     ]
 
 
-# ---- the simulator, from its help
+# ---- the programs, from their help
+
+PURPOSES = {
+    "keylocker-simulator": "replay calls on an emulated Intel Key Locker machine",
+    "keylocker-run": "run a program with Intel Key Locker where the processor lacks it",
+}
+SEE_ALSO = {"keylocker-simulator": "keylocker-run(1), keylocker-traces(5)", "keylocker-run": "keylocker-simulator(1), keylocker-traces(5)"}
 
 
 def styled(text, operands):
@@ -85,7 +93,8 @@ def options(text, operands):
     return [line for option, meaning in entries for line in tagged(styled(option, operands), styled(re.sub(r"\n +", "\n", meaning), operands))]
 
 
-def simulator(version, text):
+def program(name, version, text):
+    """What a help says of the machine that it is printed on is not for a page."""
     if not text.startswith("usage: "):
         sys.exit(f"tools/manual.py: this is no help: {text[:80]!r}")
     usage, *paragraphs = text.replace("simulator/TRACES.md", "keylocker-traces(5)").strip("\n").split("\n\n")
@@ -95,6 +104,8 @@ def simulator(version, text):
     for part in paragraphs:
         if part.startswith(" "):
             listed += options(part, operands)
+        elif part.startswith("Here: "):
+            continue
         elif part.startswith("Exit status: "):
             status += paragraph(styled(part.removeprefix("Exit status: "), operands))
         else:
@@ -102,7 +113,7 @@ def simulator(version, text):
     synopsis = [".nf", *text_lines(styled(usage, operands)), ".fi"]
     sections = {"Synopsis": synopsis, "Description": described, "Options": listed, "Exit status": status}
     body = [line for title, part in sections.items() for line in [*section(title), *part]]
-    return page("keylocker-simulator", 1, version, "replay calls on an emulated Intel Key Locker machine", body, styled("keylocker-traces(5)", operands))
+    return page(name, 1, version, PURPOSES[name], body, styled(SEE_ALSO[name], operands))
 
 
 # ---- the trace language, from Markdown
@@ -178,11 +189,11 @@ def traces(version, text):
     """Below its title TRACES.md has the usage."""
     _, usage, rest = text.split("\n\n", 2)
     body = [*section("Synopsis"), *markdown(usage), *section("Description"), *markdown(rest)]
-    return page("keylocker-traces", 5, version, "the language of the traces that keylocker-simulator replays", body, rf"{BOLD}keylocker\-simulator{ROMAN}(1)")
+    return page("keylocker-traces", 5, version, "the language of the traces that keylocker-simulator replays", body, rf"{BOLD}keylocker\-simulator{ROMAN}(1), {BOLD}keylocker\-run{ROMAN}(1)")
 
 
 def main():
-    pages = {"simulator": simulator, "traces": traces}
+    pages = {name: functools.partial(program, name) for name in PURPOSES} | {"traces": traces}
     if len(sys.argv) != 3 or sys.argv[1] not in pages:
         sys.exit(__doc__)
     print("\n".join(pages[sys.argv[1]](sys.argv[2], sys.stdin.read())))
