@@ -5,8 +5,8 @@
 #                unless given, and LIBDIR, INCLUDEDIR, BINDIR, MANDIR and DOCDIR are folders below it unless given
 # make uninstall remove what make install, given the same folders, has installed
 # make demo      run the simulator's built-in scenario
-# make bench     measure the proved libraries against AES, key wrapping, the cryptography of whole calls and the keyring in C, and the stack that each
-#                call needs
+# make bench     measure the proved libraries against AES, key wrapping, the cryptography of whole calls and the keyring in C, an instruction under
+#                keylocker-run against the library's call, and the stack that each call needs
 # make examples  print the papers' examples, computed by the proved libraries
 # make test      all tests, as tests/run.sh has them
 # make test-decoder  compare the proved decoder with GNU objdump, on about two million strings
@@ -136,7 +136,7 @@ test-install: all
 
 # ---- measuring
 
-bench: build/bench_aes build/bench_keywrap build/bench_keylocker build/bench_keyring build/test_stack
+bench: build/bench_aes build/bench_keywrap build/bench_keylocker build/bench_keyring $(RUN_BUILT) build/bench_run build/test_stack
 	./build/bench_aes
 	@echo
 	./build/bench_keywrap
@@ -145,12 +145,15 @@ bench: build/bench_aes build/bench_keywrap build/bench_keylocker build/bench_key
 	@echo
 	./build/bench_keyring
 	@echo
+	$(if $(RUN_BUILT),./build/keylocker-run ./build/bench_run)
+	@echo
 	./build/test_stack
 
 build/bench_aes: $(AES:%=build/%.o) target/staticlib/libaes_c.a
 build/bench_keywrap: $(KEYWRAP:%=build/%.o) target/staticlib/libkeywrap_c.a
 build/bench_keylocker: $(KEYLOCKER:%=build/%.o) target/staticlib/libkeylocker.a
 build/bench_keyring: $(KEYRING:%=build/%.o) target/staticlib/libkeylocker.a
+build/bench_run: build/run.o build/measure.o target/staticlib/libkeylocker.a
 build/bench_%:
 	$(CC) $(CFLAGS) -o $@ $^ -lm
 

@@ -33,7 +33,6 @@ static void ask_machine(uint8_t *block, void *argument)
     struct asked *a = argument;
     keylocker_cpuid(block, KEYLOCKER_MACHINE_SIZE, a->record, sizeof a->record, a->leaf, a->subleaf, &a->answer[EAX], &a->answer[EBX],
                     &a->answer[ECX], &a->answer[EDX]);
-    keylocker_clear_stack();
 }
 
 /* The host's own bits, with the machine's over them. Who asks for leaf 0x19 looks first whether there are so many; those that the host lacks before it are
@@ -55,7 +54,7 @@ bool answer_cpuid(ucontext_t *context)
     static const uint8_t string[] = {0x0F, 0xA2};
     greg_t *gregs = context->uc_mcontext.gregs;
     uint8_t bytes[sizeof string];
-    if (read_memory((uint64_t)gregs[REG_RIP], bytes, sizeof bytes) != sizeof bytes || memcmp(bytes, string, sizeof string) != 0)
+    if (read_code((uint64_t)gregs[REG_RIP], bytes, sizeof bytes) != sizeof bytes || memcmp(bytes, string, sizeof string) != 0)
         return false;
     struct asked a = {.leaf = (uint32_t)gregs[REG_RAX], .subleaf = (uint32_t)gregs[REG_RCX]};
     record_of(context, a.record);

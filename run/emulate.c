@@ -93,7 +93,6 @@ static uint32_t step(uint8_t *block, struct emulation *m)
     else
         memcpy(string, f->string, len);
     uint32_t answer = keylocker_step(block, KEYLOCKER_MACHINE_SIZE, 0, m->e.after, KEYLOCKER_CPU_SIZE, m->e.handle, m->e.handle_len, NULL, 0, string, len);
-    keylocker_clear_stack();
     keylocker_set_rip(m->e.after, keylocker_get_rip(m->e.before) + fetched_len(f));
     return answer;
 }
@@ -131,13 +130,6 @@ static void execute(uint8_t *block, void *argument)
     trace(&m->e);
 }
 
-/* Keys do not stay behind; that no store is left out is what the volatile pointer is for. */
-static void forget(struct emulation *m)
-{
-    static void *(*const volatile clear)(void *, int, size_t) = memset;
-    clear(m, 0, sizeof *m);
-}
-
 bool emulate(ucontext_t *context)
 {
     struct fetched f;
@@ -152,6 +144,5 @@ bool emulate(ucontext_t *context)
     bool done = m.e.answer == KEYLOCKER_DONE, sent = !done && m.fault.si_signo != 0;
     if (sent)
         send_fault(&m.fault, context);
-    forget(&m);
     return done || sent;
 }

@@ -42,7 +42,7 @@ static size_t put_prefixes(const struct prefixes *p, uint8_t *string)
 bool fetch(uint64_t address, struct fetched *f)
 {
     uint8_t bytes[LONGEST_INSTRUCTION];
-    size_t count = read_memory(address, bytes, sizeof bytes), at = 0;
+    size_t count = read_code(address, bytes, sizeof bytes), at = 0;
     struct prefixes prefixes = {0};
     while (at < count && take_prefix(bytes[at], &prefixes))
         at++;

@@ -5,6 +5,7 @@
 #include <stddef.h>
 #include <time.h>
 
+#include "self.h"
 #include "system.h"
 
 /* A section takes microseconds. */
@@ -12,32 +13,26 @@ enum { PATIENCE_NS = 200000000 };
 
 /* ---- what the kernel looks at when a thread dies */
 
-/* The C library gives each thread a list of the locks that it holds; that one is being taken or freed stands beside it, which is enough for one lock that is
- * held in a section where the thread takes no other. */
+/* The C library gives each thread a list of the locks that it holds; which one it is about to take or to free stands beside it, and that is enough for a lock
+ * that is held in a section where the thread takes no other. */
 static void announce(struct lock *lock, struct holding *h)
 {
-    size_t len;
-    h->head = NULL;
-    if (SYSTEM(SYS_get_robust_list, 0, &h->head, &len) < 0 || h->head == NULL)
+    struct robust_list_head *head = h->self->robust;
+    if (head == NULL)
         return;
-    h->pending = h->head->list_op_pending;
-    h->head->list_op_pending = (struct robust_list *)((char *)&lock->word - h->head->futex_offset);
+    h->pending = head->list_op_pending;
+    head->list_op_pending = (struct robust_list *)((char *)&lock->word - head->futex_offset);
     atomic_signal_fence(memory_order_seq_cst);
 }
 
 static void withdraw(struct holding *h)
 {
     atomic_signal_fence(memory_order_seq_cst);
-    if (h->head != NULL)
-        h->head->list_op_pending = h->pending;
+    if (h->self->robust != NULL)
+        h->self->robust->list_op_pending = h->pending;
 }
 
 /* ---- the lock */
-
-static uint32_t this_thread(void)
-{
-    return (uint32_t)SYSTEM(SYS_gettid);
-}
 
 /* Frees it for one that waits, who frees it for the next: whoever has waited says that others may. */
 static bool take_by(struct lock *lock, uint32_t thread)
@@ -68,16 +63,17 @@ static bool take_by(struct lock *lock, uint32_t thread)
 
 bool lock_take(struct lock *lock, struct holding *holding)
 {
+    holding->self = self();
     announce(lock, holding);
-    holding->held = take_by(lock, this_thread());
-    if (!holding->held)
+    bool taken = take_by(lock, (uint32_t)holding->self->thread);
+    if (!taken)
         withdraw(holding);
-    return holding->held;
+    return taken;
 }
 
 void lock_free(struct lock *lock, struct holding *holding)
 {
-    uint32_t word = atomic_load(&lock->word), thread = this_thread();
+    uint32_t word = atomic_load(&lock->word), thread = (uint32_t)holding->self->thread;
     while ((word & FUTEX_TID_MASK) == thread && !atomic_compare_exchange_weak(&lock->word, &word, 0))
         continue;
     if ((word & FUTEX_TID_MASK) == thread && word & FUTEX_WAITERS)

@@ -13,9 +13,8 @@ struct lock {
 
 /* What the holder keeps between taking and freeing. */
 struct holding {
-    struct robust_list_head *head; /* of this thread, or none */
-    void *pending;                 /* as it was there */
-    bool held;
+    const struct self *self;
+    void *pending; /* as the thread's list had it */
 };
 
 /* False where it was not to be had for a while: its holder is stopped, say by Ctrl-Z. */

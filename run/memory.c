@@ -6,6 +6,7 @@
 #include <sys/mman.h>
 #include <sys/uio.h>
 
+#include "self.h"
 #include "system.h"
 
 enum { PAGE = 4096 };
@@ -21,31 +22,39 @@ static uint64_t page_of(uint64_t address)
 
 /* ---- reading */
 
+/* How many of the bytes lie on the first page. */
+static size_t on_first_page(uint64_t address, size_t len)
+{
+    size_t rest = PAGE - (size_t)(address - page_of(address));
+    return len < rest ? len : rest;
+}
+
 /* The kernel copies a signal set from there before it finds that it does not know what to do with it. */
 static bool readable(uint64_t address)
 {
     return SYSTEM(SYS_rt_sigprocmask, -1, address & ~UINT64_C(7), 0, 8) == -EINVAL;
 }
 
-/* Where a sandbox has no process_vm_readv: page by page, each tried first. */
-static size_t read_tried(uint64_t address, uint8_t *to, size_t first, size_t len)
+size_t read_code(uint64_t address, uint8_t *to, size_t len)
 {
+    size_t first = on_first_page(address, len);
     if (!readable(address))
         return 0;
-    size_t some = first < len && readable(address + first) ? len : first;
-    memcpy(to, (const void *)address, some);
-    return some;
+    if (first < len && !readable(address + first))
+        len = first;
+    memcpy(to, (const void *)address, len);
+    return len;
 }
 
 size_t read_memory(uint64_t address, uint8_t *to, size_t len)
 {
-    size_t page_rest = PAGE - (size_t)(address - page_of(address)), first = len < page_rest ? len : page_rest;
+    size_t first = on_first_page(address, len);
     const struct iovec local = {to, len};
     /* in parts, one to a page: of a part all bytes are read or none */
     const struct iovec remote[] = {{(void *)address, first}, {(void *)(address + first), len - first}};
-    long count = SYSTEM(SYS_process_vm_readv, SYSTEM(SYS_getpid), &local, 1, remote, 2, 0);
+    long count = SYSTEM(SYS_process_vm_readv, self()->process, &local, 1, remote, first < len ? 2 : 1, 0);
     if (count == -EPERM || count == -ENOSYS || count == -EACCES)
-        return read_tried(address, to, first, len);
+        return read_code(address, to, len); // a sandbox does without
     return count < 0 ? 0 : (size_t)count;
 }
 

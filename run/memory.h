@@ -9,6 +9,9 @@
 /* How many of the bytes from an address on could be read, up to the first that could not. Of a length below a page. */
 size_t read_memory(uint64_t address, uint8_t *to, size_t len);
 
+/* The same, faster, of memory that no other thread unmaps meanwhile: that of an instruction which is being executed. */
+size_t read_code(uint64_t address, uint8_t *to, size_t len);
+
 /* The signal, code and address that Linux gives who reads a byte that cannot be read. */
 void memory_fault(uint64_t address, siginfo_t *info);
 

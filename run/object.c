@@ -7,6 +7,7 @@
 #include "emulate.h"
 #include "environment.h"
 #include "machine.h"
+#include "self.h"
 #include "stacks.h"
 
 /* ---- the handler */
@@ -54,6 +55,7 @@ __attribute__((constructor)) static void start(int count, char **arguments, char
     (void)count, (void)arguments;
     if (machine == NULL)
         return;
+    self_start();
     machine_start(machine);
     emulate_start(variable(environment, ENVIRONMENT_COUNTS), variable(environment, ENVIRONMENT_TRACE));
     stacks_start();

@@ -1,8 +1,8 @@
 # keylocker-run: the program, and the object that it has the dynamic linker load into others. For Linux on x86-64; elsewhere they are left out.
 
 RUN_SHARED = mnemonic decode text
-RUN_FRONT = main options iwkey machine_open machine_file lock scratch launch counts fail
-RUN_OBJECT = object emulate fetch memory machine machine_file lock stacks actions interpose cpuid trace counts say
+RUN_FRONT = main options iwkey machine_open machine_file lock self scratch launch counts fail
+RUN_OBJECT = object emulate fetch memory machine machine_file lock self stacks actions interpose cpuid trace counts say
 RUN_HEADERS = $(wildcard run/*.h simulator/*.h) include/keylocker.h
 RUN_FLAGS = $(CFLAGS) -D_GNU_SOURCE -fPIC -fvisibility=hidden -Iinclude -Isimulator
 RUN_BUILT = $(if $(filter x86_64-Linux,$(shell uname -m)-$(shell uname -s)),build/keylocker-run build/keylocker-run.so build/keylocker-run.1)

@@ -4,14 +4,16 @@
 #include <pthread.h>
 #include <signal.h>
 #include <stdint.h>
+#include <string.h>
 #include <sys/mman.h>
 
 #include "actions.h"
 #include "interpose.h"
 #include "system.h"
 
-/* A signal's frame has all vector registers: some 3 KiB, with AMX 11. The program's own handlers for the signals that are taken here run on it, too. */
-enum { GUARD = 4096, OWN = 32768, SIGNALS_ROOM = 131072 };
+/* The library needs KEYLOCKER_STACK_SIZE at most, and what calls it some 4 KiB. A signal's frame has all vector registers: some 3 KiB, with AMX 11; the program's
+ * own handlers for the signals that are taken here run behind it. */
+enum { GUARD = 4096, OWN = 16384, SIGNALS_ROOM = 131072 };
 
 /* What a thread has: from below a guard, the library's stack, a guard, the stack for signals. */
 struct stacks {
@@ -84,11 +86,14 @@ static void call_on(uint8_t *top, void (*function)(void *argument), void *argume
 void call_on_own_stack(void (*function)(void *argument), void *argument)
 {
     struct stacks *s = stacks == NULL ? stacks_make() : stacks;
-    if (s == NULL)
+    if (s == NULL) {
         function(argument);
-    else
-        call_on(s->own + sizeof s->own, function, argument);
-    if (s != NULL && s != stacks)
+        return;
+    }
+    call_on(s->own + sizeof s->own, function, argument);
+    memset(s->own, 0, sizeof s->own);
+    __asm__ volatile("" : : "r"(s->own) : "memory"); // no store is left out
+    if (s != stacks)
         stacks_free(s);
 }
 

@@ -5,7 +5,8 @@
 /* For the first thread, at the start; the others get theirs by pthread_create. */
 void stacks_start(void);
 
-/* Calls a function on this thread's own stack, whatever room is left on the one in use: a program may have set up a small one for signals. */
+/* Calls a function on this thread's own stack, whatever room is left on the one in use: a program may have set up a small one for signals. What the function
+ * left there, keys among it, is then cleared. */
 void call_on_own_stack(void (*function)(void *argument), void *argument);
 
 #endif

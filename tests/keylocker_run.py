@@ -415,7 +415,7 @@ def test_mode(tmp):
 
 def test_lock(tmp):
     """Freed where its holder dies; one that stopped holds nobody up for long."""
-    holder = built("holder", "-pthread", sources=("run/lock.c", "run/machine_file.c", "build/libkeylocker.a"))
+    holder = built("holder", "-pthread", sources=("run/lock.c", "run/self.c", "run/machine_file.c", "build/libkeylocker.a"))
     must(command(holder, "dies", timeout=60), 0, "holder dies")
     if not client():
         return NO_INTRINSICS
