@@ -126,6 +126,8 @@ static void execute(uint8_t *block, void *argument)
         put_registers(m->context, m->e.after);
     else
         choose_signal(m);
+    if (m->e.answer == KEYLOCKER_BAD_MACHINE)
+        machine_damaged();
     count(&m->e);
     trace(&m->e);
 }

@@ -18,13 +18,15 @@
 
 /* ---- the file */
 
-/* As execvp finds it; none where it does not. */
+/* As execvp finds it; none where only that knows. */
 static char *find(const char *name)
 {
     const char *path = getenv("PATH"), *end;
     char *file = NULL;
-    if (strchr(name, '/') != NULL || path == NULL)
+    if (strchr(name, '/') != NULL)
         return strdup(name);
+    if (path == NULL)
+        return NULL;
     for (;; path = end + 1) {
         end = strchrnul(path, ':');
         if (asprintf(&file, "%.*s%s%s", (int)(end - path), path, end == path ? "" : "/", name) < 0)
@@ -65,6 +67,8 @@ static const char *obstacle(int fd)
 void look_at_program(const char *name)
 {
     char *file = find(name);
+    if (file == NULL)
+        return;
     if (access(file, F_OK) < 0)
         fail(EXIT_NOT_FOUND, "%s: %s", name, strerror(errno));
     int fd = open(file, O_RDONLY | O_CLOEXEC);
@@ -97,24 +101,34 @@ static void forward_signals(void)
             sigaction(signals[i], &action, NULL);
 }
 
+static _Noreturn void become(char **program)
+{
+    execvp(program[0], program);
+    int error = errno;
+    fprintf(stderr, "keylocker-run: %s: %s\n", program[0], strerror(error));
+    _exit(error == ENOENT ? EXIT_NOT_FOUND : EXIT_CANNOT_RUN);
+}
+
 int run_program(char **program)
 {
+    const struct sigaction wait_for_children = {.sa_handler = SIG_DFL};
+    struct sigaction old; // whoever started this may ignore its children, and then they cannot be waited for
     sigset_t all, mask;
     int status;
-    sigfillset(&all);
+    sigaction(SIGCHLD, &wait_for_children, &old);
     forward_signals();
+    sigfillset(&all);
     sigprocmask(SIG_SETMASK, &all, &mask); // until it is known whom to forward to
     fflush(NULL);
     pid_t made = fork();
     if (made < 0)
         fail(EXIT_OURS, "no process can be made: %s", strerror(errno));
     child = made;
+    if (made == 0)
+        sigaction(SIGCHLD, &old, NULL);
     sigprocmask(SIG_SETMASK, &mask, NULL);
-    if (made == 0) {
-        execvp(program[0], program);
-        fprintf(stderr, "keylocker-run: %s: %s\n", program[0], strerror(errno));
-        _exit(errno == ENOENT ? EXIT_NOT_FOUND : EXIT_CANNOT_RUN);
-    }
+    if (made == 0)
+        become(program);
     while (waitpid(made, &status, 0) < 0 && errno == EINTR)
         continue;
     child = 0;

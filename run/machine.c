@@ -23,6 +23,11 @@ bool machine_there(void)
     return file != NULL;
 }
 
+void machine_damaged(void)
+{
+    say_error("the machine has been damaged", path, 0);
+}
+
 /* Where the lock is not to be had, a copy will do: at CPL 3 no instruction changes the machine. */
 void with_machine(void (*calls)(uint8_t *block, void *argument), void *argument)
 {

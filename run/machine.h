@@ -9,6 +9,9 @@
 void machine_start(const char *path);
 bool machine_there(void);
 
+/* Told where a call finds that it is no machine any more. */
+void machine_damaged(void);
+
 /* In a handler, where all signals are masked: makes the calls of a function on the machine, under its lock. */
 void with_machine(void (*calls)(uint8_t *block, void *argument), void *argument);
 

@@ -41,23 +41,53 @@ static void open_machine(const struct options *options, struct machine_file *hel
     set_path(ENVIRONMENT_MACHINE, path);
 }
 
-/* A new one, of the owner's alone. It begins with the machine as it is now. */
-static void start_trace(const char *path, const struct machine_file *held, char **program)
+/* The program's words, in one line. */
+static void put_words(FILE *file, char **words)
+{
+    for (; *words != NULL; words++) {
+        fputc(' ', file);
+        for (const char *c = *words; *c != '\0'; c++)
+            fputc((unsigned char)*c < ' ' ? '?' : *c, file);
+    }
+}
+
+/* The machine as it is now, with the zeros at its end counted. */
+static void put_machine(FILE *file, const uint8_t block[KEYLOCKER_MACHINE_SIZE])
 {
     char digits[2 * KEYLOCKER_MACHINE_SIZE + 1];
     struct text t;
-    int fd = open(path, O_WRONLY | O_CREAT | O_TRUNC | O_CLOEXEC, 0600);
-    FILE *file = fd < 0 ? NULL : fdopen(fd, "w");
-    if (file == NULL || fchmod(fd, 0600) < 0)
-        fail(EXIT_OURS, "%s: %s", path, strerror(errno));
+    size_t len = KEYLOCKER_MACHINE_SIZE;
+    while (len > 0 && block[len - 1] == 0)
+        len--;
     text_start(&t, digits, sizeof digits);
-    text_add_bytes(&t, held->block, sizeof held->block);
-    fputs("# keylocker-run " KEYLOCKER_VERSION ":", file);
-    for (; *program != NULL; program++)
-        for (const char *c = fputs(" ", file) < 0 ? "" : *program; *c != '\0'; c++)
-            fputc((unsigned char)*c < ' ' ? '?' : *c, file);
-    fprintf(file, "\n# This trace holds the IWKey, and keys that were encoded. keylocker-simulator replays it.\nmachine = %s\n", digits);
+    text_add_bytes(&t, block, len);
+    fprintf(file, "machine = %s", digits);
+    if (len < KEYLOCKER_MACHINE_SIZE)
+        fprintf(file, " 00*%zu", KEYLOCKER_MACHINE_SIZE - len);
+    fputc('\n', file);
     explicit_bzero(digits, sizeof digits);
+}
+
+/* An empty file of the owner's alone; what was there before is gone. Devices stay as they are, and all processes have to find it by its name. */
+static FILE *new_trace(const char *path)
+{
+    struct stat status;
+    int fd = open(path, O_WRONLY | O_CREAT | O_CLOEXEC | O_NONBLOCK, 0600);
+    if (fd >= 0 && fstat(fd, &status) == 0 && !S_ISREG(status.st_mode))
+        fail(EXIT_OURS, "%s: a trace has to be a file", path);
+    FILE *file = fd < 0 || fchmod(fd, 0600) < 0 || ftruncate(fd, 0) < 0 ? NULL : fdopen(fd, "w");
+    if (file == NULL)
+        fail(EXIT_OURS, "%s: %s", path, strerror(errno));
+    return file;
+}
+
+static void start_trace(const char *path, const struct machine_file *held, char **program)
+{
+    FILE *file = new_trace(path);
+    fputs("# keylocker-run " KEYLOCKER_VERSION ":", file);
+    put_words(file, program);
+    fputs("\n# This trace holds the IWKey, and the keys that were encoded.\n", file);
+    put_machine(file, held->block);
     if (fclose(file) != 0)
         fail(EXIT_OURS, "%s: %s", path, strerror(errno));
     fprintf(stderr, "keylocker-run: the trace in %s holds the IWKey and the keys that are encoded\n", path);
@@ -127,12 +157,21 @@ static void preload(void)
     free(object);
 }
 
+/* Where this is itself run by keylocker-run. */
+static void leave_outer_run(void)
+{
+    unsetenv(ENVIRONMENT_COUNTS);
+    unsetenv(ENVIRONMENT_TRACE);
+    unsetenv(ENVIRONMENT_CPUID);
+}
+
 int main(int argc, char **argv)
 {
     struct options options;
     struct machine_file held;
     struct counts *counts = NULL;
     take_options(argc, argv, &options);
+    leave_outer_run();
     look_at_program(options.program[0]);
     open_machine(&options, &held);
     if (options.trace != NULL)
@@ -140,6 +179,8 @@ int main(int argc, char **argv)
     explicit_bzero(&held, sizeof held);
     if (options.count)
         counts = start_counts();
+    if (options.host_cpuid)
+        setenv(ENVIRONMENT_CPUID, "host", 1);
     preload();
     int status = run_program(options.program);
     if (counts != NULL)

@@ -60,6 +60,6 @@ __attribute__((constructor)) static void start(int count, char **arguments, char
     emulate_start(variable(environment, ENVIRONMENT_COUNTS), variable(environment, ENVIRONMENT_TRACE));
     stacks_start();
     actions_own(SIGILL, handle);
-    if (cpuid_start())
+    if (variable(environment, ENVIRONMENT_CPUID) == NULL && cpuid_start())
         actions_own(SIGSEGV, handle);
 }

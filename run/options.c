@@ -8,7 +8,7 @@
 #include "keylocker.h"
 
 static const char help[] =
-    "usage: keylocker-run [--machine FILE] [--iwkey FILE] [--trace FILE] [--count] PROGRAM [ARG..]\n"
+    "usage: keylocker-run [--machine FILE] [--iwkey FILE] [--trace FILE] [--count] [--host-cpuid] PROGRAM [ARG..]\n"
     "\n"
     "Runs PROGRAM, unmodified, with Intel Key Locker on a processor that lacks it: each such instruction traps, is executed by the proved\n"
     "library on an emulated machine, and the program goes on. For x86-64 Linux and programs that are linked dynamically with the GNU C library;\n"
@@ -21,14 +21,15 @@ static const char help[] =
     "  -t, --trace FILE    write each emulated instruction to FILE, as a line that keylocker-simulator replays. It holds the IWKey and the keys\n"
     "                      that were encoded: treat it as you treat them\n"
     "  -c, --count         print how many instructions of each kind were emulated, on standard error, when PROGRAM has ended\n"
+    "      --host-cpuid    leave CPUID as it is\n"
     "      --version\n"
     "  -h, --help\n"
     "\n"
     "PROGRAM runs at CPL 3: LOADIWKEY is #GP there. A refused instruction becomes the signal that Linux sends, SIGILL for #UD, SIGSEGV for\n"
     "#GP and #PF, SIGBUS for #SS; handlers that PROGRAM has for them are its own. SIGILL cannot be blocked.\n"
     "\n"
-    "Where the processor can make CPUID fault, PROGRAM sees one that has Key Locker: leaf 7 and leaf 0x19 tell so. Elsewhere it sees its host's\n"
-    "CPUID, and has to be told to use the instructions.\n"
+    "Where the processor can make CPUID fault, PROGRAM sees one that has Key Locker: leaf 7 and leaf 0x19 tell so. Elsewhere, and with\n"
+    "--host-cpuid, it sees its host's CPUID, and has to be told to use the instructions.\n"
     "\n"
     "Exit status: that of PROGRAM; 125 if keylocker-run itself fails, 126 if PROGRAM cannot be run, 127 if it is not found. Where a signal ended\n"
     "PROGRAM, the same ends keylocker-run.\n";
@@ -54,11 +55,11 @@ static _Noreturn void bad_usage(void)
 
 void take_options(int argc, char **argv, struct options *options)
 {
-    enum { VERSION = 'v' };
+    enum { VERSION = 256, HOST_CPUID };
     static const struct option known[] = {
         {"machine", required_argument, NULL, 'm'}, {"iwkey", required_argument, NULL, 'k'}, {"trace", required_argument, NULL, 't'},
         {"count", no_argument, NULL, 'c'},         {"version", no_argument, NULL, VERSION}, {"help", no_argument, NULL, 'h'},
-        {NULL, 0, NULL, 0},
+        {"host-cpuid", no_argument, NULL, HOST_CPUID}, {NULL, 0, NULL, 0},
     };
     int option;
     *options = (struct options){0};
@@ -68,6 +69,7 @@ void take_options(int argc, char **argv, struct options *options)
         case 'k': options->iwkey = optarg; break;
         case 't': options->trace = optarg; break;
         case 'c': options->count = true; break;
+        case HOST_CPUID: options->host_cpuid = true; break;
         case VERSION: print_version();
         case 'h': print_help();
         default: bad_usage();

@@ -9,7 +9,7 @@ enum { EXIT_OURS = 125, EXIT_CANNOT_RUN = 126, EXIT_NOT_FOUND = 127 };
 
 struct options {
     const char *machine, *iwkey, *trace; /* files, or none */
-    bool count;
+    bool count, host_cpuid;
     char **program; /* with its arguments */
 };
 

@@ -14,9 +14,11 @@ void say_error(const char *what, const char *file, int error)
     text_add(&t, what);
     text_add(&t, ": ");
     text_add(&t, file);
-    text_add(&t, " (error ");
-    text_add_decimal(&t, (uint64_t)error);
-    text_add(&t, ")");
+    if (error != 0) {
+        text_add(&t, " (error ");
+        text_add_decimal(&t, (uint64_t)error);
+        text_add(&t, ")");
+    }
     room[t.len] = '\n';
     SYSTEM(SYS_write, STDERR_FILENO, room, t.len + 1);
 }

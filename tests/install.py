@@ -153,7 +153,7 @@ INSTALLED = {
     "INCLUDEDIR": ["keylocker.h"],
     "BINDIR": ["keylocker-simulator", *["keylocker-run"] * RUNS],
     "MANDIR": ["man1/keylocker-simulator.1", "man5/keylocker-traces.5", *["man1/keylocker-run.1"] * RUNS],
-    "DOCDIR": ["TRACES.md", "THREATS.md", "examples/seal.c", "examples/probe.c", "examples/large_guest.c", "examples/coprocess.py"],
+    "DOCDIR": ["TRACES.md", "THREATS.md", "examples/seal.c", "examples/probe.c", "examples/large_guest.c", "examples/intrinsics.c", "examples/coprocess.py"],
 }
 
 

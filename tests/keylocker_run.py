@@ -297,6 +297,19 @@ def test_client(tmp):
     need(f"keylocker-run: {sum(done for done, *_ in found.values())} instructions emulated\n" in result.stderr, result.stderr)
 
 
+def test_example(tmp):
+    """examples/intrinsics.c, by the compilers that are here."""
+    found = []
+    for compiler in ["gcc", "clang", "g++"]:
+        language = ["-x", "c++"] if compiler == "g++" else []
+        command_line = [compiler, *STRICT, "-O2", "-mkl", *language, ROOT / "examples/intrinsics.c", "-o", tmp / compiler]
+        if shutil.which(compiler) and command(*command_line).returncode == 0:
+            need(must(run(tmp / compiler), 0, compiler).stdout == "69c4e0d86a7b0430d8cdb78070b4c55a\n", compiler)
+            found.append(compiler)
+    need(found or not client(), "the example does not compile")
+    return "passed: " + ", ".join(found) if found else NO_INTRINSICS
+
+
 @needs_client
 def test_without(tmp):
     """The same program by itself is ended by SIGILL."""
@@ -469,8 +482,8 @@ def test_trace(tmp):
 def test_trace_lost(tmp):
     """A trace that cannot be written is told of: at the start, and later."""
     need("/none" in must(run("-t", tmp / "none/trace", "true"), 125, "no folder").stderr, "not told")
-    result = must(run("-t", "/dev/full", client(), "rounds", 1), 125, "/dev/full")
-    need("/dev/full" in result.stderr, result.stderr)
+    before = os.stat("/dev/null").st_mode
+    need("has to be a file" in must(run("-t", "/dev/null", "true"), 125, "/dev/null").stderr and os.stat("/dev/null").st_mode == before, "/dev/null")
     result = must(run("-t", tmp / "trace", "sh", "-c", f"rm {tmp}/trace; {client()} rounds 1"), 0, "removed")
     need("a line of the trace is lost" in result.stderr, result.stderr)
 
@@ -503,6 +516,8 @@ def test_cpuid(tmp):
         if leaf == 1:  # which processor it was
             host[1], found[1] = host[1] % 2**24, found[1] % 2**24
         need(found == host, hex(leaf), subleaf, [*map(hex, found)], "not", [*map(hex, host)])
+    hosts = command(*faulting, "--host-cpuid", cpuid, "answer", "19", "0")
+    need(hosts.returncode == 6, "with --host-cpuid a CPUID that faults is the program's own")
     if client():  # and with another's handlers of SIGSEGV
         must(command(*faulting, client(), "rounds", 3), 0, "client rounds where CPUID faults")
         must(command(*faulting, client(), "handlers"), -signal.SIGILL, "client handlers where CPUID faults")
@@ -540,10 +555,26 @@ def test_programs(tmp):
     (tmp / "script").write_text("exit 3\n")
     (tmp / "script").chmod(0o755)
     must(run(tmp / "script"), 3, "a script without a first line")
-    must(run(RUN, "true"), 0, "keylocker-run in itself")
+    inner = must(run("--count", "--trace", tmp / "trace", RUN, "printenv"), 0, "keylocker-run in itself").stdout
+    need("KEYLOCKER_RUN_MACHINE=" in inner and "KEYLOCKER_RUN_TRACE=" not in inner and inner.count(str(OBJECT)) == 1, inner)
+    must(command("python3", "-c", f"import os, signal; signal.signal(signal.SIGCHLD, signal.SIG_IGN); os.execv({str(RUN)!r}, ['', 'false'])"), 1, "SIGCHLD")
+    must(run("sh", "-c", "exit 4", env={}), 4, "without PATH")
     for number in [0, signal.SIGTERM, signal.SIGKILL, signal.SIGSEGV, signal.SIGILL]:
         machine = must(run("sh", "-c", f"ls $KEYLOCKER_RUN_MACHINE && kill -{number:d} $$"), -number, f"ended by {number}").stdout.strip()
         need(machine.startswith("/") and not Path(machine).parent.exists(), machine, "stays")
+
+
+@needs_client
+def test_later_damage(tmp):
+    """A machine that is damaged, or gone, while programs use it is told of, and the instruction is #UD; programs without such instructions go on."""
+    machine = tmp / "machine"
+    must(run("-m", machine, "true"), 0, "a new machine")
+    damage = f"printf '\\377' | dd of={machine} bs=1 seek=40 conv=notrunc status=none"
+    result = must(run("-m", machine, "sh", "-c", f"{damage}; {client()} quiet && exec {client()} rounds 1"), -signal.SIGILL, "damaged")
+    need(f"keylocker-run: the machine has been damaged: {machine}\n" == result.stderr, result.stderr)
+    machine.unlink()
+    result = must(run("-m", machine, "sh", "-c", f"rm {machine}; {client()} quiet && exec {client()} rounds 1"), -signal.SIGILL, "gone")
+    need(f"keylocker-run: the machine cannot be opened: {machine} (error 2)\n" == result.stderr, result.stderr)
 
 
 def test_forwarded(tmp):
