@@ -1,5 +1,5 @@
 /* Seals one block by the compiler's own intrinsics for Key Locker. It knows nothing of an emulator: compiled with "gcc -O2 -mkl intrinsics.c -o intrinsics", it is
- * run by "keylocker-run ./intrinsics" where the processor lacks the instructions. */
+ * run by "keylocker-run ./intrinsics" where the processor lacks the instructions. (Not by clang 14, whose intrinsics clear the block where the handle opens.) */
 #include <immintrin.h>
 #include <stdio.h>
 

