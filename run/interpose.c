@@ -2,20 +2,26 @@
 
 #include "interpose.h"
 
-#include <errno.h>
-#include <poll.h>
-#include <signal.h>
+#include <dlfcn.h>
 #include <stddef.h>
-#include <sys/epoll.h>
-#include <sys/select.h>
 
 #include "actions.h"
+
+const struct interposed *real(void)
+{
+    static struct interposed found;
+    if (found.pthread_create == NULL) { // the last of them
+#define LOOK_UP(name) found.name = (__typeof__(name) *)dlsym(RTLD_NEXT, #name);
+        INTERPOSED(LOOK_UP)
+#undef LOOK_UP
+    }
+    return &found;
+}
 
 /* ---- actions */
 
 EXPORTED int sigaction(int signal, const struct sigaction *action, struct sigaction *old)
 {
-    REAL(sigaction);
     struct sigaction masked;
     if (actions_owned(signal)) {
         actions_exchange(signal, action, old);
@@ -25,7 +31,7 @@ EXPORTED int sigaction(int signal, const struct sigaction *action, struct sigact
         masked = *action;
         put_bits(&masked.sa_mask, actions_mask(bits_of(&action->sa_mask)));
     }
-    return real(signal, action == NULL ? NULL : &masked, old);
+    return real()->sigaction(signal, action == NULL ? NULL : &masked, old);
 }
 
 static sighandler_t exchange_handler(int signal, sighandler_t handler, int flags)
@@ -37,14 +43,12 @@ static sighandler_t exchange_handler(int signal, sighandler_t handler, int flags
 
 EXPORTED sighandler_t signal(int signal_number, sighandler_t handler)
 {
-    REAL(signal);
-    return actions_owned(signal_number) ? exchange_handler(signal_number, handler, SA_RESTART) : real(signal_number, handler);
+    return actions_owned(signal_number) ? exchange_handler(signal_number, handler, SA_RESTART) : real()->signal(signal_number, handler);
 }
 
 EXPORTED sighandler_t __sysv_signal(int signal, sighandler_t handler)
 {
-    REAL(__sysv_signal);
-    return actions_owned(signal) ? exchange_handler(signal, handler, SA_RESETHAND | SA_NODEFER) : real(signal, handler);
+    return actions_owned(signal) ? exchange_handler(signal, handler, SA_RESETHAND | SA_NODEFER) : real()->__sysv_signal(signal, handler);
 }
 
 /* Other names of the same. */
@@ -76,42 +80,36 @@ static const sigset_t *without_owned(const sigset_t *set, sigset_t *room)
 
 EXPORTED int pthread_sigmask(int how, const sigset_t *set, sigset_t *old)
 {
-    REAL(pthread_sigmask);
     sigset_t room;
-    return real(how, how == SIG_UNBLOCK ? set : without_owned(set, &room), old);
+    return real()->pthread_sigmask(how, how == SIG_UNBLOCK ? set : without_owned(set, &room), old);
 }
 
 EXPORTED int sigprocmask(int how, const sigset_t *set, sigset_t *old)
 {
-    REAL(sigprocmask);
     sigset_t room;
-    return real(how, how == SIG_UNBLOCK ? set : without_owned(set, &room), old);
+    return real()->sigprocmask(how, how == SIG_UNBLOCK ? set : without_owned(set, &room), old);
 }
 
 EXPORTED int sigsuspend(const sigset_t *set)
 {
-    REAL(sigsuspend);
     sigset_t room;
-    return real(without_owned(set, &room));
+    return real()->sigsuspend(without_owned(set, &room));
 }
 
 EXPORTED int pselect(int count, fd_set *readable, fd_set *writable, fd_set *others, const struct timespec *timeout, const sigset_t *set)
 {
-    REAL(pselect);
     sigset_t room;
-    return real(count, readable, writable, others, timeout, without_owned(set, &room));
+    return real()->pselect(count, readable, writable, others, timeout, without_owned(set, &room));
 }
 
 EXPORTED int ppoll(struct pollfd *fds, nfds_t count, const struct timespec *timeout, const sigset_t *set)
 {
-    REAL(ppoll);
     sigset_t room;
-    return real(fds, count, timeout, without_owned(set, &room));
+    return real()->ppoll(fds, count, timeout, without_owned(set, &room));
 }
 
 EXPORTED int epoll_pwait(int fd, struct epoll_event *events, int most, int timeout, const sigset_t *set)
 {
-    REAL(epoll_pwait);
     sigset_t room;
-    return real(fd, events, most, timeout, without_owned(set, &room));
+    return real()->epoll_pwait(fd, events, most, timeout, without_owned(set, &room));
 }

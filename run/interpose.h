@@ -2,14 +2,26 @@
 #ifndef INTERPOSE_H
 #define INTERPOSE_H
 
-#include <dlfcn.h>
+#include <poll.h>
+#include <pthread.h>
+#include <signal.h>
+#include <sys/epoll.h>
+#include <sys/select.h>
 
 #define EXPORTED __attribute__((visibility("default")))
 
-/* The function of the C library that has the name, as real. */
-#define REAL(name)                                             \
-    static __typeof__(&name) real;                             \
-    if (real == NULL)                                          \
-        real = (__typeof__(&name))dlsym(RTLD_NEXT, #name)
+#define INTERPOSED(F)                                                                                                         \
+    F(sigaction) F(signal) F(__sysv_signal) F(pthread_sigmask) F(sigprocmask) F(sigsuspend) F(pselect) F(ppoll) F(epoll_pwait) \
+    F(pthread_create)
+
+/* The C library's own. */
+struct interposed {
+#define DECLARED(name) __typeof__(name) *name;
+    INTERPOSED(DECLARED)
+#undef DECLARED
+};
+
+/* Looked up at the start: what a handler of the program's calls may not wait for the dynamic linker. */
+const struct interposed *real(void);
 
 #endif

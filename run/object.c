@@ -6,6 +6,7 @@
 #include "cpuid.h"
 #include "emulate.h"
 #include "environment.h"
+#include "interpose.h"
 #include "machine.h"
 #include "self.h"
 #include "stacks.h"
@@ -55,6 +56,7 @@ __attribute__((constructor)) static void start(int count, char **arguments, char
     (void)count, (void)arguments;
     if (machine == NULL)
         return;
+    real();
     self_start();
     machine_start(machine);
     emulate_start(variable(environment, ENVIRONMENT_COUNTS), variable(environment, ENVIRONMENT_TRACE));

@@ -1,8 +1,7 @@
 #include "stacks.h"
 
-#include <dlfcn.h>
-#include <pthread.h>
 #include <signal.h>
+#include <stdbool.h>
 #include <stdint.h>
 #include <string.h>
 #include <sys/mman.h>
@@ -51,13 +50,17 @@ static void signals_on(struct stacks *s)
         SYSTEM(SYS_sigaltstack, &stack, 0);
 }
 
+/* A thread may end in a handler, on the stack for signals: then that stays. */
 static void signals_off(struct stacks *s)
 {
     const stack_t none = {.ss_flags = SS_DISABLE};
-    stack_t old;
-    stacks = NULL;
-    if (SYSTEM(SYS_sigaltstack, 0, &old) == 0 && old.ss_sp == s->signals)
+    stack_t old = {0};
+    SYSTEM(SYS_sigaltstack, 0, &old);
+    if (old.ss_flags & SS_ONSTACK)
+        return;
+    if (old.ss_sp == s->signals)
         SYSTEM(SYS_sigaltstack, &none, 0);
+    stacks = NULL;
     stacks_free(s);
 }
 
@@ -125,12 +128,11 @@ static void *begin(void *own)
 
 EXPORTED int pthread_create(pthread_t *thread, const pthread_attr_t *attributes, void *(*routine)(void *), void *argument)
 {
-    REAL(pthread_create);
     struct stacks *s = stacks_make();
     if (s == NULL)
-        return real(thread, attributes, routine, argument);
+        return real()->pthread_create(thread, attributes, routine, argument);
     ((struct beginning *)(s->own + sizeof s->own))[-1] = (struct beginning){routine, argument};
-    int error = real(thread, attributes, begin, s);
+    int error = real()->pthread_create(thread, attributes, begin, s);
     if (error != 0)
         stacks_free(s);
     return error;
