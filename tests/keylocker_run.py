@@ -212,9 +212,9 @@ def undefined_cases(draw):
         yield bytes(random_record(draw, CODE).bytes), bytes.fromhex(string), REGION, b"", (signal.SIGILL, 2, CODE)
 
 
-def answers(tmp, args, cases):
+def answers(tmp, args, cases, before=()):
     """The program's lines, with what has to be there."""
-    with subprocess.Popen([RUN, *with_iwkey(tmp), *args], stdin=subprocess.PIPE, stdout=subprocess.PIPE, text=True) as process:
+    with subprocess.Popen([*before, RUN, *with_iwkey(tmp), *args], stdin=subprocess.PIPE, stdout=subprocess.PIPE, text=True) as process:
         fs_base = int(process.stdout.readline(), 16)
         for record, string, at, data, expected in cases(fs_base):
             process.stdin.write(f"{record.hex()} {string.hex()} {at:x} {data.hex() or '-'}\n")
@@ -264,6 +264,13 @@ def test_registers(tmp):
 def test_small_stack(tmp):
     """On a stack for signals that has next to no room for a handler."""
     for record, string, expected, line in answers(tmp, [built("registers", "-Wl,-z,now"), "2048"], random_cases(60, SEED + 1)):
+        compare(record, string, expected, line)
+
+
+def test_sandbox(tmp):
+    """Where memory has to be read without the system call for that; the same signals come."""
+    sandbox = [built("sandbox"), "memory"]
+    for record, string, expected, line in answers(tmp, [built("registers", "-Wl,-z,now")], random_cases(200, SEED + 2), sandbox):
         compare(record, string, expected, line)
 
 
@@ -498,7 +505,7 @@ def answered(*args):
 def test_cpuid(tmp):
     """Where CPUID faults, leaf 7 and leaf 0x19 have the machine's bits over the host's, and all others are the host's."""
     cpuid = built("cpuid")
-    faulting = [cpuid, "faulting", RUN]
+    faulting = [built("sandbox"), "cpuid", RUN]
     need("Here: CPUID is answered with Key Locker.\n" in command(*faulting, "--help").stdout, "--help where CPUID faults")
     if command(*faulting, cpuid, "answer", "1", "0").returncode == 5:
         return "skipped: no process can trace another here"
