@@ -22,6 +22,7 @@ __asm__(".text\n"
 enum { PLACES = 64, SIGNALS = 65 };
 
 struct own {
+    void (*handler)(int signal, siginfo_t *info, void *context);
     struct sigaction places[PLACES];
     _Atomic unsigned next, current;
 };
@@ -51,31 +52,41 @@ static void put_action(struct own *own, const struct sigaction *action)
     atomic_store(&own->current, place);
 }
 
-void actions_exchange(int signal, const struct sigaction *action, struct sigaction *old)
-{
-    struct own *own = own_of(signal);
-    struct sigaction before = own->places[atomic_load(&own->current)];
-    if (action != NULL)
-        put_action(own, action);
-    if (old != NULL)
-        *old = before;
-}
-
 static void set_default(int signal)
 {
     const struct kernel_action action = {0};
     kernel_sigaction(signal, &action, NULL);
 }
 
+/* System calls that the signal comes in go on or not as the program's action has it. */
+static void set_ours(int signal, const struct sigaction *programs)
+{
+    struct kernel_action ours = {.action = own_of(signal)->handler, SA_SIGINFO | SA_ONSTACK | SA_RESTORER, return_from_signal, ALL_SIGNALS};
+    if (programs->sa_handler == SIG_DFL || programs->sa_handler == SIG_IGN || programs->sa_flags & SA_RESTART)
+        ours.flags |= SA_RESTART;
+    kernel_sigaction(signal, &ours, NULL);
+}
+
+void actions_exchange(int signal, const struct sigaction *action, struct sigaction *old)
+{
+    struct own *own = own_of(signal);
+    struct sigaction before = own->places[atomic_load(&own->current)];
+    if (action != NULL) {
+        put_action(own, action);
+        set_ours(signal, action);
+    }
+    if (old != NULL)
+        *old = before;
+}
+
 void actions_own(int signal, void (*handler)(int signal, siginfo_t *info, void *context))
 {
-    const struct kernel_action ours = {.action = handler, SA_SIGINFO | SA_ONSTACK | SA_RESTORER, return_from_signal, ALL_SIGNALS};
-    struct kernel_action first;
+    struct kernel_action first = {0};
     struct sigaction programs = {0};
-    if (kernel_sigaction(signal, &ours, &first) < 0)
-        return;
+    kernel_sigaction(signal, NULL, &first);
     programs.sa_handler = first.handler;
-    put_action(own_of(signal), &programs);
+    own_of(signal)->handler = handler;
+    actions_exchange(signal, &programs, NULL);
     owned |= signal_bit(signal);
     kernel_sigmask(SIG_UNBLOCK, signal_bit(signal));
 }

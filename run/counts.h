@@ -13,7 +13,4 @@ struct counts {
     _Atomic uint64_t signals[MNEMONICS]; /* became a signal */
 };
 
-/* None where it cannot be mapped. */
-struct counts *counts_map(const char *path);
-
 #endif

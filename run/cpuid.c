@@ -49,7 +49,7 @@ static void put_over(const struct asked *a, uint32_t host[CPUID_REGISTERS])
         host[EAX] = LEAF_KEY_LOCKER;
 }
 
-bool answer_cpuid(ucontext_t *context)
+bool answer_cpuid(ucontext_t *context, const struct self *self)
 {
     static const uint8_t string[] = {0x0F, 0xA2};
     greg_t *gregs = context->uc_mcontext.gregs;
@@ -59,7 +59,7 @@ bool answer_cpuid(ucontext_t *context)
     struct asked a = {.leaf = (uint32_t)gregs[REG_RAX], .subleaf = (uint32_t)gregs[REG_RCX]};
     record_of(context, a.record);
     if (machine_there())
-        with_machine(ask_machine, &a);
+        with_machine(self, ask_machine, &a);
     uint32_t host[CPUID_REGISTERS];
     cpuid_faults(false);
     host_cpuid(a.leaf, a.subleaf, host);

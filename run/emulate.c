@@ -7,6 +7,7 @@
 #include "fetch.h"
 #include "keylocker.h"
 #include "machine.h"
+#include "map.h"
 #include "memory.h"
 #include "trace.h"
 
@@ -50,7 +51,7 @@ static bool canonical(uint64_t address)
 }
 
 /* Reads the handle; where it cannot be read, the signal that is sent for that. */
-static void read_handle(const struct fetched *f, struct emulated *e, siginfo_t *fault)
+static void read_handle(const struct fetched *f, const struct self *self, struct emulated *e, siginfo_t *fault)
 {
     uint64_t address = fetched_address(f, e->before);
     size_t len = f->instruction.mnemonic->key_size == 32 ? KEYLOCKER_HANDLE_256_SIZE : KEYLOCKER_HANDLE_128_SIZE;
@@ -58,7 +59,7 @@ static void read_handle(const struct fetched *f, struct emulated *e, siginfo_t *
         *fault = (siginfo_t){.si_signo = in_stack_segment(f) ? SIGBUS : SIGSEGV, .si_code = SI_KERNEL};
         return;
     }
-    size_t count = read_memory(address, e->handle, len);
+    size_t count = read_memory(self, address, e->handle, len);
     if (count < len)
         memory_fault(address + count, fault);
     else
@@ -71,7 +72,8 @@ static struct counts *counts;
 
 void emulate_start(const char *counts_path, const char *trace_path)
 {
-    counts = counts_path == NULL ? NULL : counts_map(counts_path);
+    int error;
+    counts = counts_path == NULL ? NULL : map_file(counts_path, sizeof *counts, &error);
     trace_start(trace_path);
 }
 
@@ -132,7 +134,7 @@ static void execute(uint8_t *block, void *argument)
     trace(&m->e);
 }
 
-bool emulate(ucontext_t *context)
+bool emulate(ucontext_t *context, const struct self *self)
 {
     struct fetched f;
     if (!fetch((uint64_t)context->uc_mcontext.gregs[REG_RIP], &f) || !machine_there())
@@ -141,8 +143,8 @@ bool emulate(ucontext_t *context)
     record_of(context, m.e.before);
     memcpy(m.e.after, m.e.before, sizeof m.e.after);
     if (f.instruction.mnemonic->memory)
-        read_handle(&f, &m.e, &m.fault);
-    with_machine(execute, &m);
+        read_handle(&f, self, &m.e, &m.fault);
+    with_machine(self, execute, &m);
     bool done = m.e.answer == KEYLOCKER_DONE, sent = !done && m.fault.si_signo != 0;
     if (sent)
         send_fault(&m.fault, context);

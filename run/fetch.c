@@ -9,7 +9,7 @@
 
 /* ---- prefixes (SDM volume 2, section 2.1.1) */
 
-enum { LOCK = 0xF0, REP = 0xF3, ADDRESS_SIZE = 0x67, FS = 0x64, GS = 0x65, CS = 0x2E, SS = 0x36, DS = 0x3E, ES = 0x26 };
+enum { BREAKPOINT = 0xCC, LOCK = 0xF0, REP = 0xF3, ADDRESS_SIZE = 0x67, FS = 0x64, GS = 0x65, CS = 0x2E, SS = 0x36, DS = 0x3E, ES = 0x26 };
 
 struct prefixes {
     bool lock, rep, address_size;
@@ -44,6 +44,8 @@ bool fetch(uint64_t address, struct fetched *f)
     uint8_t bytes[LONGEST_INSTRUCTION];
     size_t count = read_code(address, bytes, sizeof bytes), at = 0;
     struct prefixes prefixes = {0};
+    if (count > 0 && bytes[0] == BREAKPOINT)
+        bytes[0] = REP; // a debugger's: one of the program's own would not be SIGILL
     while (at < count && take_prefix(bytes[at], &prefixes))
         at++;
     if (!prefixes.rep)
@@ -89,8 +91,10 @@ bool in_stack_segment(const struct fetched *f)
 size_t rewrite_operand(const struct fetched *f, uint8_t string[STRING_ROOM])
 {
     enum { MODRM_REG = 0x38, MODRM_SIB = 4, SIB_ABSOLUTE = 0x25, REX_X_B = 3 };
-    const uint8_t *from = memchr(f->string, REP, f->len);
+    const uint8_t *from = f->string;
     size_t len = 0;
+    while (*from != REP)
+        from++;
     string[len++] = *from++;
     if (*from >> 4 == 4)
         string[len++] = (uint8_t)(*from++ & ~REX_X_B);

@@ -51,6 +51,22 @@ EXPORTED sighandler_t __sysv_signal(int signal, sighandler_t handler)
     return actions_owned(signal) ? exchange_handler(signal, handler, SA_RESETHAND | SA_NODEFER) : real()->__sysv_signal(signal, handler);
 }
 
+/* Those of System V; one that is owned is never held. */
+EXPORTED sighandler_t sigset(int signal, sighandler_t handler)
+{
+    return !actions_owned(signal) ? real()->sigset(signal, handler) : handler == SIG_HOLD ? SIG_HOLD : exchange_handler(signal, handler, 0);
+}
+
+EXPORTED int sigignore(int signal)
+{
+    return !actions_owned(signal) ? real()->sigignore(signal) : (exchange_handler(signal, SIG_IGN, 0), 0);
+}
+
+EXPORTED int sighold(int signal)
+{
+    return actions_owned(signal) ? 0 : real()->sighold(signal);
+}
+
 /* Other names of the same. */
 EXPORTED sighandler_t bsd_signal(int signal_number, sighandler_t handler)
 {
@@ -112,4 +128,16 @@ EXPORTED int epoll_pwait(int fd, struct epoll_event *events, int most, int timeo
 {
     sigset_t room;
     return real()->epoll_pwait(fd, events, most, timeout, without_owned(set, &room));
+}
+
+EXPORTED int __ppoll_chk(struct pollfd *fds, nfds_t count, const struct timespec *timeout, const sigset_t *set, size_t room_of_fds)
+{
+    sigset_t room;
+    return real()->__ppoll_chk(fds, count, timeout, without_owned(set, &room), room_of_fds);
+}
+
+EXPORTED int epoll_pwait2(int fd, struct epoll_event *events, int most, const struct timespec *timeout, const sigset_t *set)
+{
+    sigset_t room;
+    return real()->epoll_pwait2(fd, events, most, timeout, without_owned(set, &room));
 }

@@ -32,15 +32,26 @@ static bool take_digits(const uint8_t *text, size_t len, uint8_t iwkey[IWKEY_BYT
     return digits == 2 * IWKEY_BYTES;
 }
 
+/* Half an IWKey in digits is no whole one in bytes. */
+static bool all_digits(const uint8_t text[IWKEY_BYTES])
+{
+    size_t digits = 0;
+    while (digits < IWKEY_BYTES && hex_digit((char)text[digits]) >= 0)
+        digits++;
+    return digits == IWKEY_BYTES;
+}
+
 void iwkey_read(const char *path, uint8_t iwkey[IWKEY_BYTES])
 {
     uint8_t text[1024];
     FILE *file = fopen(path, "rbe");
-    size_t len = file == NULL ? 0 : fread(text, 1, sizeof text, file);
-    if (file == NULL || ferror(file))
+    if (file == NULL)
+        fail(EXIT_OURS, "%s: %s", path, strerror(errno));
+    size_t len = fread(text, 1, sizeof text, file);
+    if (ferror(file))
         fail(EXIT_OURS, "%s: %s", path, strerror(errno));
     fclose(file);
-    if (len == IWKEY_BYTES)
+    if (len == IWKEY_BYTES && !all_digits(text))
         memcpy(iwkey, text, IWKEY_BYTES);
     else if (!take_digits(text, len, iwkey))
         fail(EXIT_OURS, "%s: not an IWKey: %d bytes or %d hexadecimal digits are expected", path, IWKEY_BYTES, 2 * IWKEY_BYTES);

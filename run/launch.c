@@ -82,54 +82,73 @@ void look_at_program(const char *name)
 
 /* ---- the process */
 
-static volatile pid_t child;
-
-/* What a process sends to keylocker-run is meant for the program. What the terminal sends, the program has got itself. */
-static void forward(int signal, siginfo_t *info, void *context)
-{
-    (void)context;
-    if (info->si_code <= 0 && child > 0)
-        kill(child, signal);
-}
-
-static void forward_signals(void)
-{
-    static const int signals[] = {SIGHUP, SIGINT, SIGQUIT, SIGTERM, SIGUSR1, SIGUSR2, SIGCONT, SIGALRM, SIGWINCH};
-    struct sigaction action = {.sa_sigaction = forward, .sa_flags = SA_SIGINFO | SA_RESTART}, old;
-    for (size_t i = 0; i < sizeof signals / sizeof *signals; i++)
-        if (sigaction(signals[i], NULL, &old) == 0 && old.sa_handler != SIG_IGN)
-            sigaction(signals[i], &action, NULL);
-}
-
-static _Noreturn void become(char **program)
+void become(char **program)
 {
     execvp(program[0], program);
     int error = errno;
-    fprintf(stderr, "keylocker-run: %s: %s\n", program[0], strerror(error));
-    _exit(error == ENOENT ? EXIT_NOT_FOUND : EXIT_CANNOT_RUN);
+    fail(error == ENOENT ? EXIT_NOT_FOUND : EXIT_CANNOT_RUN, "%s: %s", program[0], strerror(error));
+}
+
+static volatile pid_t child;
+
+/* What is sent to keylocker-run is meant for the program. What the terminal sends, the program has got itself. */
+static void forward(int signal, siginfo_t *info, void *context)
+{
+    bool terminals = signal == SIGINT || signal == SIGQUIT || signal == SIGHUP || signal == SIGWINCH || signal == SIGCONT;
+    (void)context;
+    if (child > 0 && !(terminals && info->si_code > 0))
+        kill(child, signal);
+}
+
+/* All that can be caught, also those that were ignored or blocked, but for those about this process alone. */
+static bool forwarded(int signal)
+{
+    static const int not[] = {SIGKILL, SIGSTOP, SIGCHLD, SIGTSTP, SIGTTIN, SIGTTOU, SIGILL, SIGTRAP, SIGBUS, SIGFPE, SIGSEGV};
+    for (size_t i = 0; i < sizeof not / sizeof *not; i++)
+        if (signal == not[i])
+            return false;
+    return true;
+}
+
+static struct sigaction found[NSIG];
+
+static void forward_signals(void)
+{
+    const struct sigaction wait_for_children = {.sa_handler = SIG_DFL};
+    const struct sigaction action = {.sa_sigaction = forward, .sa_flags = SA_SIGINFO | SA_RESTART};
+    for (int signal = 1; signal < NSIG; signal++)
+        if (signal == SIGCHLD)
+            sigaction(signal, &wait_for_children, &found[signal]); // who started this may ignore its children
+        else if (forwarded(signal))
+            sigaction(signal, &action, &found[signal]);
+}
+
+/* For the program, as keylocker-run found them. */
+static void restore_signals(void)
+{
+    for (int signal = 1; signal < NSIG; signal++)
+        if (signal == SIGCHLD || forwarded(signal))
+            sigaction(signal, &found[signal], NULL);
 }
 
 int run_program(char **program)
 {
-    const struct sigaction wait_for_children = {.sa_handler = SIG_DFL};
-    struct sigaction old; // whoever started this may ignore its children, and then they cannot be waited for
-    sigset_t all, mask;
+    sigset_t all, none, mask;
     int status;
-    sigaction(SIGCHLD, &wait_for_children, &old);
-    forward_signals();
     sigfillset(&all);
+    sigemptyset(&none);
     sigprocmask(SIG_SETMASK, &all, &mask); // until it is known whom to forward to
-    fflush(NULL);
-    pid_t made = fork();
-    if (made < 0)
+    forward_signals();
+    child = fork();
+    if (child < 0)
         fail(EXIT_OURS, "no process can be made: %s", strerror(errno));
-    child = made;
-    if (made == 0)
-        sigaction(SIGCHLD, &old, NULL);
-    sigprocmask(SIG_SETMASK, &mask, NULL);
-    if (made == 0)
+    if (child == 0) {
+        restore_signals();
+        sigprocmask(SIG_SETMASK, &mask, NULL);
         become(program);
-    while (waitpid(made, &status, 0) < 0 && errno == EINTR)
+    }
+    sigprocmask(SIG_SETMASK, &none, NULL);
+    while (waitpid(child, &status, 0) < 0 && errno == EINTR)
         continue;
     child = 0;
     return status;
@@ -139,13 +158,9 @@ void end_as(int status)
 {
     if (!WIFSIGNALED(status))
         exit(WEXITSTATUS(status));
-    sigset_t one;
     const struct rlimit none = {0, 0};
-    sigemptyset(&one);
-    sigaddset(&one, WTERMSIG(status));
     setrlimit(RLIMIT_CORE, &none); // the program has left a core file, or not
     signal(WTERMSIG(status), SIG_DFL);
-    sigprocmask(SIG_UNBLOCK, &one, NULL);
     raise(WTERMSIG(status));
     exit(128 + WTERMSIG(status));
 }

@@ -5,7 +5,10 @@
 /* Exits with a message where it cannot be found, or cannot be loaded an object into. */
 void look_at_program(const char *name);
 
-/* What became of it, as waitpid tells. */
+/* It takes the place of this one: process, signals and end are its own. */
+_Noreturn void become(char **program);
+
+/* In a process of its own: what became of it, as waitpid tells. */
 int run_program(char **program);
 
 /* Ends as the program did. */

@@ -5,7 +5,6 @@
 #include <stddef.h>
 #include <time.h>
 
-#include "self.h"
 #include "system.h"
 
 /* A section takes microseconds. */
@@ -17,7 +16,7 @@ enum { PATIENCE_NS = 200000000 };
  * that is held in a section where the thread takes no other. */
 static void announce(struct lock *lock, struct holding *h)
 {
-    struct robust_list_head *head = h->self->robust;
+    struct robust_list_head *head = h->self.robust;
     if (head == NULL)
         return;
     h->pending = head->list_op_pending;
@@ -28,13 +27,22 @@ static void announce(struct lock *lock, struct holding *h)
 static void withdraw(struct holding *h)
 {
     atomic_signal_fence(memory_order_seq_cst);
-    if (h->self->robust != NULL)
-        h->self->robust->list_op_pending = h->pending;
+    if (h->self.robust != NULL)
+        h->self.robust->list_op_pending = h->pending;
 }
 
 /* ---- the lock */
 
-/* Frees it for one that waits, who frees it for the next: whoever has waited says that others may. */
+/* Whether its holder is no more, though the kernel has not freed it: an earlier boot's, or a child's that had its parent's list. */
+static bool lost(struct lock *lock, uint32_t holder)
+{
+    if (SYSTEM(SYS_kill, holder, 0) != -ESRCH)
+        return false;
+    lock_clear(lock, holder);
+    return true;
+}
+
+/* It is freed for one that waits, who frees it for the next: whoever has waited says that others may. */
 static bool take_by(struct lock *lock, uint32_t thread)
 {
     /* the holder that was waited for in vain: waiting for it again would make each call as slow */
@@ -50,7 +58,7 @@ static bool take_by(struct lock *lock, uint32_t thread)
         if (found == waited || atomic_compare_exchange_strong(&lock->word, &found, waited)) {
             const struct timespec patience = {.tv_nsec = PATIENCE_NS};
             others = FUTEX_WAITERS;
-            if (SYSTEM(SYS_futex, &lock->word, FUTEX_WAIT, waited, &patience) == -ETIMEDOUT) {
+            if (SYSTEM(SYS_futex, &lock->word, FUTEX_WAIT, waited, &patience) == -ETIMEDOUT && !lost(lock, holder)) {
                 atomic_store(&stuck, holder);
                 return false;
             }
@@ -61,11 +69,11 @@ static bool take_by(struct lock *lock, uint32_t thread)
     return true;
 }
 
-bool lock_take(struct lock *lock, struct holding *holding)
+bool lock_take(struct lock *lock, const struct self *self, struct holding *holding)
 {
-    holding->self = self();
+    holding->self = *self;
     announce(lock, holding);
-    bool taken = take_by(lock, (uint32_t)holding->self->thread);
+    bool taken = take_by(lock, (uint32_t)holding->self.thread);
     if (!taken)
         withdraw(holding);
     return taken;
@@ -73,7 +81,7 @@ bool lock_take(struct lock *lock, struct holding *holding)
 
 void lock_free(struct lock *lock, struct holding *holding)
 {
-    uint32_t word = atomic_load(&lock->word), thread = (uint32_t)holding->self->thread;
+    uint32_t word = atomic_load(&lock->word), thread = (uint32_t)holding->self.thread;
     while ((word & FUTEX_TID_MASK) == thread && !atomic_compare_exchange_weak(&lock->word, &word, 0))
         continue;
     if ((word & FUTEX_TID_MASK) == thread && word & FUTEX_WAITERS)
@@ -81,7 +89,14 @@ void lock_free(struct lock *lock, struct holding *holding)
     withdraw(holding);
 }
 
-void lock_clear(struct lock *lock)
+long lock_holder(const struct lock *lock)
 {
-    atomic_store(&lock->word, 0);
+    return atomic_load(&lock->word) & FUTEX_TID_MASK;
+}
+
+void lock_clear(struct lock *lock, long holder)
+{
+    uint32_t word = atomic_load(&lock->word);
+    if ((word & FUTEX_TID_MASK) == holder)
+        atomic_compare_exchange_strong(&lock->word, &word, 0);
 }

@@ -7,21 +7,24 @@
 #include <stdbool.h>
 #include <stdint.h>
 
+#include "self.h"
+
 struct lock {
     _Atomic uint32_t word; /* the holder's thread, and two bits of the kernel's; 0 is free */
 };
 
 /* What the holder keeps between taking and freeing. */
 struct holding {
-    const struct self *self;
+    struct self self;
     void *pending; /* as the thread's list had it */
 };
 
 /* False where it was not to be had for a while: its holder is stopped, say by Ctrl-Z. */
-bool lock_take(struct lock *lock, struct holding *holding);
+bool lock_take(struct lock *lock, const struct self *self, struct holding *holding);
 void lock_free(struct lock *lock, struct holding *holding);
 
-/* Of memory that nobody has locked: what an earlier boot or a copy of a file left there goes. */
-void lock_clear(struct lock *lock);
+/* The thread that has it, or 0; and that it has not, where that is known. */
+long lock_holder(const struct lock *lock);
+void lock_clear(struct lock *lock, long holder);
 
 #endif

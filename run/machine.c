@@ -1,25 +1,25 @@
 #include "machine.h"
 
-#include <limits.h>
 #include <string.h>
 
 #include "machine_file.h"
+#include "map.h"
 #include "say.h"
 
 static struct machine_file *file;
-static char path[PATH_MAX]; /* a copy, because programs that rename themselves write over their environment */
+static char path[PATH_ROOM];
 static int error;
 
 void machine_start(const char *named)
 {
-    strncpy(path, named, sizeof path - 1);
-    file = machine_file_map(named, &error);
+    path_copy(path, named);
+    file = map_file(named, sizeof *file, &error);
 }
 
 bool machine_there(void)
 {
     if (file == NULL)
-        say_error("the machine cannot be opened", path, error);
+        say_error("the machine cannot be opened; without --machine it is gone when the program has ended", path, error);
     return file != NULL;
 }
 
@@ -29,10 +29,10 @@ void machine_damaged(void)
 }
 
 /* Where the lock is not to be had, a copy will do: at CPL 3 no instruction changes the machine. */
-void with_machine(void (*calls)(uint8_t *block, void *argument), void *argument)
+void with_machine(const struct self *self, void (*calls)(uint8_t *block, void *argument), void *argument)
 {
     struct holding holding;
-    if (lock_take(&file->lock, &holding)) {
+    if (lock_take(&file->lock, self, &holding)) {
         calls(file->block, argument);
         lock_free(&file->lock, &holding);
     } else {

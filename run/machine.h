@@ -5,6 +5,8 @@
 #include <stdbool.h>
 #include <stdint.h>
 
+#include "self.h"
+
 /* At the start. What cannot be opened is told when an instruction needs it: most programs have none. */
 void machine_start(const char *path);
 bool machine_there(void);
@@ -13,6 +15,6 @@ bool machine_there(void);
 void machine_damaged(void);
 
 /* In a handler, where all signals are masked: makes the calls of a function on the machine, under its lock. */
-void with_machine(void (*calls)(uint8_t *block, void *argument), void *argument);
+void with_machine(const struct self *self, void (*calls)(uint8_t *block, void *argument), void *argument);
 
 #endif

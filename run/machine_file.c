@@ -1,11 +1,6 @@
 #include "machine_file.h"
 
-#include <errno.h>
-#include <fcntl.h>
 #include <string.h>
-#include <sys/mman.h>
-#include <sys/stat.h>
-#include <unistd.h>
 
 _Static_assert(sizeof(struct machine_file) == 4096, "a page");
 
@@ -46,19 +41,4 @@ const char *machine_file_fault(const struct machine_file *file, size_t len)
     if (!block_fits(file->block))
         return "damaged: the machine in it is not of the form that the library takes";
     return NULL;
-}
-
-struct machine_file *machine_file_map(const char *path, int *error)
-{
-    struct stat status;
-    void *file = MAP_FAILED;
-    int fd = open(path, O_RDWR | O_CLOEXEC);
-    if (fd < 0 || fstat(fd, &status) < 0 || (status.st_size < (off_t)sizeof(struct machine_file) && (errno = EINVAL)) ||
-        (file = mmap(NULL, sizeof(struct machine_file), PROT_READ | PROT_WRITE, MAP_SHARED, fd, 0)) == MAP_FAILED)
-        *error = errno;
-    else
-        madvise(file, sizeof(struct machine_file), MADV_DONTDUMP);
-    if (fd >= 0)
-        close(fd);
-    return file == MAP_FAILED ? NULL : file;
 }

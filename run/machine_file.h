@@ -25,7 +25,4 @@ void machine_file_seal(struct machine_file *file);
 /* What is wrong with what a file holds, in words, or nothing. */
 const char *machine_file_fault(const struct machine_file *file, size_t len);
 
-/* Maps a file that has been looked at; none where it cannot be done, with the error's number. */
-struct machine_file *machine_file_map(const char *path, int *error);
-
 #endif

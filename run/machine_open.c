@@ -5,12 +5,14 @@
 #include <stdio.h>
 #include <stdlib.h>
 #include <string.h>
-#include <sys/file.h>
+#include <sys/mman.h>
 #include <sys/stat.h>
+#include <sys/sysmacros.h>
 #include <unistd.h>
 
 #include "fail.h"
 #include "iwkey.h"
+#include "map.h"
 #include "options.h"
 
 /* ---- a new machine */
@@ -83,30 +85,51 @@ static void make_file(const char *path, const uint8_t *iwkey)
 
 /* ---- opening */
 
-/* For as long as this process lives it has the file locked in company. Where it could have it alone nobody uses the machine, and what stands in its lock is
- * from before: of an earlier boot, or of the file that this one is a copy of. */
-static void clear_stale_lock(int fd, const char *path)
+/* Whether a thread's process has the file mapped: its maps have a line with device and inode. */
+static bool has_mapped(long thread, const struct stat *file)
+{
+    char name[64], *line = NULL;
+    size_t room = 0;
+    bool found = false;
+    snprintf(name, sizeof name, "/proc/%ld/maps", thread);
+    FILE *maps = fopen(name, "re");
+    while (maps != NULL && !found && getline(&line, &room, maps) > 0) {
+        unsigned major, minor;
+        unsigned long long inode;
+        found = sscanf(line, "%*s %*s %*s %x:%x %llu", &major, &minor, &inode) == 3 && makedev(major, minor) == file->st_dev && inode == file->st_ino;
+    }
+    free(line);
+    if (maps != NULL)
+        fclose(maps);
+    return found;
+}
+
+/* What stands in the lock may be of an earlier boot, or of the file that this one is a copy of. */
+static void clear_stale_lock(const char *path, const struct stat *status)
 {
     int error;
-    if (flock(fd, LOCK_EX | LOCK_NB) == 0) {
-        struct machine_file *mapped = machine_file_map(path, &error);
-        if (mapped != NULL)
-            lock_clear(&mapped->lock);
-    }
-    flock(fd, LOCK_SH);
+    struct machine_file *file = map_file(path, sizeof *file, &error);
+    long holder = file == NULL ? 0 : lock_holder(&file->lock);
+    if (holder != 0 && !has_mapped(holder, status))
+        lock_clear(&file->lock, holder);
+    if (file != NULL)
+        munmap(file, sizeof *file);
 }
 
 static void look_at(int fd, const char *path, const uint8_t *iwkey, struct machine_file *held)
 {
     uint8_t one_more[sizeof *held + 1];
     struct stat status;
+    if (fstat(fd, &status) == 0 && !S_ISREG(status.st_mode))
+        fail(EXIT_OURS, "%s: a machine has to be a file", path);
     ssize_t len = pread(fd, one_more, sizeof one_more, 0);
-    if (len < 0 || fstat(fd, &status) < 0)
+    if (len < 0)
         fail(EXIT_OURS, "%s: %s", path, strerror(errno));
     memcpy(held, one_more, sizeof *held);
     const char *fault = machine_file_fault(held, (size_t)len);
     if (fault != NULL)
         fail(EXIT_OURS, "%s: %s. It is left as it is", path, fault);
+    clear_stale_lock(path, &status);
     if (status.st_mode & S_IRWXO)
         fprintf(stderr, "keylocker-run: %s: its mode lets others use it, and read the IWKey\n", path);
     if (iwkey != NULL && memcmp(held->block + KEYLOCKER_MACHINE_ENTRIES, iwkey, IWKEY_BYTES) != 0)
@@ -124,5 +147,5 @@ void machine_open(const char *path, const uint8_t *iwkey, struct machine_file *h
     if (fd < 0)
         fail(EXIT_OURS, "%s: %s", path, strerror(errno));
     look_at(fd, path, iwkey, held);
-    clear_stale_lock(fd, path);
+    close(fd);
 }

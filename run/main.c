@@ -16,6 +16,7 @@
 #include "iwkey.h"
 #include "launch.h"
 #include "machine_open.h"
+#include "map.h"
 #include "options.h"
 #include "scratch.h"
 #include "text.h"
@@ -68,24 +69,37 @@ static void put_machine(FILE *file, const uint8_t block[KEYLOCKER_MACHINE_SIZE])
     explicit_bzero(digits, sizeof digits);
 }
 
+/* Whether it is a machine's, or the file of the IWKey that was given. */
+static bool holds_keys(int fd, const char *iwkey)
+{
+    char magic[sizeof MACHINE_MAGIC - 1];
+    struct stat file, other;
+    if (iwkey != NULL && fstat(fd, &file) == 0 && stat(iwkey, &other) == 0 && file.st_dev == other.st_dev && file.st_ino == other.st_ino)
+        return true;
+    return pread(fd, magic, sizeof magic, 0) == sizeof magic && memcmp(magic, MACHINE_MAGIC, sizeof magic) == 0;
+}
+
 /* An empty file of the owner's alone; what was there before is gone. Devices stay as they are, and all processes have to find it by its name. */
-static FILE *new_trace(const char *path)
+static FILE *new_trace(const char *path, const char *iwkey)
 {
     struct stat status;
-    int fd = open(path, O_WRONLY | O_CREAT | O_CLOEXEC | O_NONBLOCK, 0600);
+    int fd = open(path, O_RDWR | O_CREAT | O_CLOEXEC | O_NONBLOCK, 0600);
     if (fd >= 0 && fstat(fd, &status) == 0 && !S_ISREG(status.st_mode))
         fail(EXIT_OURS, "%s: a trace has to be a file", path);
+    if (fd >= 0 && holds_keys(fd, iwkey))
+        fail(EXIT_OURS, "%s: a trace there would overwrite keys. It is left as it is", path);
     FILE *file = fd < 0 || fchmod(fd, 0600) < 0 || ftruncate(fd, 0) < 0 ? NULL : fdopen(fd, "w");
     if (file == NULL)
         fail(EXIT_OURS, "%s: %s", path, strerror(errno));
     return file;
 }
 
-static void start_trace(const char *path, const struct machine_file *held, char **program)
+static void start_trace(const struct options *options, const struct machine_file *held)
 {
-    FILE *file = new_trace(path);
+    const char *path = options->trace;
+    FILE *file = new_trace(path, options->iwkey);
     fputs("# keylocker-run " KEYLOCKER_VERSION ":", file);
-    put_words(file, program);
+    put_words(file, options->program);
     fputs("\n# This trace holds the IWKey, and the keys that were encoded.\n", file);
     put_machine(file, held->block);
     if (fclose(file) != 0)
@@ -100,9 +114,10 @@ static struct counts *start_counts(void)
 {
     const char *path = scratch_file("counts");
     int fd = open(path, O_RDWR | O_CREAT | O_EXCL | O_CLOEXEC, 0600);
-    struct counts *counts = fd < 0 || ftruncate(fd, sizeof(struct counts)) < 0 ? NULL : counts_map(path);
+    int error = fd < 0 || ftruncate(fd, sizeof(struct counts)) < 0 ? errno : 0;
+    struct counts *counts = error != 0 ? NULL : map_file(path, sizeof *counts, &error);
     if (counts == NULL)
-        fail(EXIT_OURS, "%s: %s", path, strerror(errno));
+        fail(EXIT_OURS, "%s: %s", path, strerror(error));
     close(fd);
     set_path(ENVIRONMENT_COUNTS, path);
     return counts;
@@ -157,6 +172,16 @@ static void preload(void)
     free(object);
 }
 
+/* Where standard input, output or error is closed, a file of ours would take its place, and be written messages to. The program finds it closed again. */
+static void take_descriptors(void)
+{
+    int fd;
+    do
+        fd = open("/dev/null", O_RDWR | O_CLOEXEC);
+    while (fd >= 0 && fd <= STDERR_FILENO);
+    close(fd);
+}
+
 /* Where this is itself run by keylocker-run. */
 static void leave_outer_run(void)
 {
@@ -170,21 +195,24 @@ int main(int argc, char **argv)
     struct options options;
     struct machine_file held;
     struct counts *counts = NULL;
+    take_descriptors();
     take_options(argc, argv, &options);
     leave_outer_run();
     look_at_program(options.program[0]);
     open_machine(&options, &held);
     if (options.trace != NULL)
-        start_trace(options.trace, &held, options.program);
+        start_trace(&options, &held);
     explicit_bzero(&held, sizeof held);
     if (options.count)
         counts = start_counts();
     if (options.host_cpuid)
         setenv(ENVIRONMENT_CPUID, "host", 1);
     preload();
+    scratch_outlive();
+    if (counts == NULL)
+        become(options.program);
     int status = run_program(options.program);
-    if (counts != NULL)
-        print_counts(counts);
+    print_counts(counts);
     scratch_remove(); // a signal that ends this leaves it no time
     end_as(status);
 }

@@ -6,7 +6,6 @@
 #include <sys/mman.h>
 #include <sys/uio.h>
 
-#include "self.h"
 #include "system.h"
 
 enum { PAGE = 4096 };
@@ -46,16 +45,15 @@ size_t read_code(uint64_t address, uint8_t *to, size_t len)
     return len;
 }
 
-size_t read_memory(uint64_t address, uint8_t *to, size_t len)
+size_t read_memory(const struct self *self, uint64_t address, uint8_t *to, size_t len)
 {
     size_t first = on_first_page(address, len);
     const struct iovec local = {to, len};
     /* in parts, one to a page: of a part all bytes are read or none */
     const struct iovec remote[] = {{(void *)address, first}, {(void *)(address + first), len - first}};
-    long count = SYSTEM(SYS_process_vm_readv, self()->process, &local, 1, remote, first < len ? 2 : 1, 0);
-    if (count == -EPERM || count == -ENOSYS || count == -EACCES)
-        return read_code(address, to, len); // a sandbox does without
-    return count < 0 ? 0 : (size_t)count;
+    long count = SYSTEM(SYS_process_vm_readv, self->process, &local, 1, remote, first < len ? 2 : 1, 0);
+    /* a sandbox may do without; and what may only be written the processor reads all the same */
+    return count == (long)len ? len : read_code(address, to, len);
 }
 
 /* ---- faults */

@@ -6,8 +6,10 @@
 #include <stddef.h>
 #include <stdint.h>
 
+#include "self.h"
+
 /* How many of the bytes from an address on could be read, up to the first that could not. Of a length below a page. */
-size_t read_memory(uint64_t address, uint8_t *to, size_t len);
+size_t read_memory(const struct self *self, uint64_t address, uint8_t *to, size_t len);
 
 /* The same, faster, of memory that no other thread unmaps meanwhile: that of an instruction which is being executed. */
 size_t read_code(uint64_t address, uint8_t *to, size_t len);

@@ -1,10 +1,10 @@
 # keylocker-run: the program, and the object that it has the dynamic linker load into others. For Linux on x86-64; elsewhere they are left out.
 
 RUN_SHARED = mnemonic decode text
-RUN_FRONT = main options iwkey machine_open machine_file lock self scratch launch counts fail
-RUN_OBJECT = object emulate fetch memory machine machine_file lock self stacks actions interpose cpuid trace counts say
+RUN_FRONT = main options iwkey machine_open machine_file map lock self scratch launch fail
+RUN_OBJECT = object emulate fetch memory machine map lock self stacks actions interpose cpuid trace say bytes_own
 RUN_HEADERS = $(wildcard run/*.h simulator/*.h) include/keylocker.h
-RUN_FLAGS = $(CFLAGS) -D_GNU_SOURCE -fPIC -fvisibility=hidden -Iinclude -Isimulator
+RUN_FLAGS = $(CFLAGS) -Wno-deprecated-declarations -D_GNU_SOURCE -fPIC -fvisibility=hidden -Iinclude -Isimulator
 RUN_BUILT = $(if $(filter x86_64-Linux,$(shell uname -m)-$(shell uname -s)),build/keylocker-run build/keylocker-run.so build/keylocker-run.1)
 
 all: $(RUN_BUILT)
@@ -23,6 +23,9 @@ build/keylocker-run.1: build/keylocker-run tools/manual.py
 build/run/%.o: run/%.c $(RUN_HEADERS)
 	@mkdir -p build/run
 	$(CC) $(RUN_FLAGS) -c -o $@ $<
+
+# loops there are not to become calls of themselves
+build/run/bytes_own.o: RUN_FLAGS += -ffreestanding -fno-tree-loop-distribute-patterns
 
 build/run/%.o: simulator/%.c $(RUN_HEADERS)
 	@mkdir -p build/run

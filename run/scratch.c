@@ -1,9 +1,13 @@
 #include "scratch.h"
 
 #include <errno.h>
+#include <poll.h>
+#include <signal.h>
 #include <stdio.h>
 #include <stdlib.h>
 #include <string.h>
+#include <sys/syscall.h>
+#include <sys/wait.h>
 #include <unistd.h>
 
 #include "fail.h"
@@ -48,4 +52,48 @@ char *scratch_file(const char *name)
     if (count == FILES_MOST || asprintf(&files[count], "%s/%s", folder, name) < 0)
         fail(EXIT_OURS, "out of memory");
     return files[count++];
+}
+
+/* ---- afterwards */
+
+/* Until a process has ended. */
+static void wait_for(pid_t process)
+{
+    struct pollfd end = {.fd = (int)syscall(SYS_pidfd_open, process, 0), .events = POLLIN};
+    if (end.fd < 0) // before Linux 5.3
+        while (kill(process, 0) == 0 || errno == EPERM)
+            usleep(100000);
+    else
+        while (poll(&end, 1, -1) < 0 && errno == EINTR)
+            continue;
+}
+
+/* It has nothing of the program's: neither descriptors, which others may wait for the end of, nor terminal, folder and signals. */
+static _Noreturn void remove_behind(pid_t process)
+{
+    sigset_t all;
+    sigfillset(&all);
+    sigprocmask(SIG_SETMASK, &all, NULL);
+    setsid();
+    if (chdir("/") < 0)
+        _exit(1);
+    syscall(SYS_close_range, 0, ~0U, 0);
+    for (int fd = 0; fd < 1024; fd++) // before Linux 5.9
+        close(fd);
+    wait_for(process);
+    scratch_remove();
+    _exit(0);
+}
+
+/* A child's child, which is nobody's to wait for. */
+void scratch_outlive(void)
+{
+    pid_t process = getpid(), child = folder == NULL ? -1 : fork();
+    if (child == 0) {
+        if (fork() == 0)
+            remove_behind(process);
+        _exit(0);
+    }
+    while (child > 0 && waitpid(child, NULL, 0) < 0 && errno == EINTR)
+        continue;
 }

@@ -8,4 +8,7 @@ char *scratch_file(const char *name);
 /* At the latest when keylocker-run exits. */
 void scratch_remove(void);
 
+/* Leaves that to a process of its own, which waits for the end of this one, whatever program it becomes. */
+void scratch_outlive(void);
+
 #endif

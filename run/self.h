@@ -1,4 +1,4 @@
-/* This process and this thread, for handlers: the kernel is asked once a thread, and again behind a fork. */
+/* This process and this thread, for handlers. */
 #ifndef SELF_H
 #define SELF_H
 
@@ -7,8 +7,7 @@ struct self {
     struct robust_list_head *robust; /* the C library's list of the locks that this thread holds, or none */
 };
 
-/* At the start; before it the kernel is asked each time. */
-void self_start(void);
-const struct self *self(void);
+/* The kernel is asked for the thread each time, and for the rest where that is another: behind a fork, and in a child that has its parent's memory. */
+struct self self_now(void);
 
 #endif

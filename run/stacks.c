@@ -19,7 +19,11 @@ struct stacks {
     uint8_t guard[GUARD], own[OWN], second_guard[GUARD], signals[SIGNALS_ROOM];
 };
 
-static __thread struct stacks *stacks __attribute__((tls_model("initial-exec")));
+/* Whose they are is asked, because a thread that a program makes by a system call may have another's variables. */
+static __thread struct {
+    struct stacks *stacks;
+    long thread;
+} mine __attribute__((tls_model("initial-exec")));
 
 /* None where there is no memory. No core file gets them: keys are on them. */
 static struct stacks *stacks_make(void)
@@ -45,7 +49,8 @@ static void signals_on(struct stacks *s)
 {
     const stack_t stack = {.ss_sp = s->signals, .ss_size = sizeof s->signals};
     stack_t old;
-    stacks = s;
+    mine.stacks = s;
+    mine.thread = SYSTEM(SYS_gettid);
     if (SYSTEM(SYS_sigaltstack, 0, &old) == 0 && old.ss_flags & SS_DISABLE)
         SYSTEM(SYS_sigaltstack, &stack, 0);
 }
@@ -60,13 +65,19 @@ static void signals_off(struct stacks *s)
         return;
     if (old.ss_sp == s->signals)
         SYSTEM(SYS_sigaltstack, &none, 0);
-    stacks = NULL;
+    mine.stacks = NULL;
     stacks_free(s);
+}
+
+static void behind_fork(void)
+{
+    mine.thread = SYSTEM(SYS_gettid);
 }
 
 void stacks_start(void)
 {
     struct stacks *s = stacks_make();
+    pthread_atfork(NULL, NULL, behind_fork);
     if (s != NULL)
         signals_on(s);
 }
@@ -85,10 +96,12 @@ static void call_on(uint8_t *top, void (*function)(void *argument), void *argume
                        "xmm9", "xmm10", "xmm11", "xmm12", "xmm13", "xmm14", "xmm15", "cc", "memory");
 }
 
-/* A thread that was not made by pthread_create has stacks for the one call. */
-void call_on_own_stack(void (*function)(void *argument), void *argument)
+/* A thread that has none, because it was made otherwise, has them for the one call. */
+void call_on_own_stack(const struct self *self, void (*function)(void *argument), void *argument)
 {
-    struct stacks *s = stacks == NULL ? stacks_make() : stacks;
+    struct stacks *s = mine.thread == self->thread ? mine.stacks : NULL;
+    if (s == NULL)
+        s = stacks_make();
     if (s == NULL) {
         function(argument);
         return;
@@ -96,34 +109,46 @@ void call_on_own_stack(void (*function)(void *argument), void *argument)
     call_on(s->own + sizeof s->own, function, argument);
     memset(s->own, 0, sizeof s->own);
     __asm__ volatile("" : : "r"(s->own) : "memory"); // no store is left out
-    if (s != stacks)
+    if (mine.thread != self->thread || s != mine.stacks)
         stacks_free(s);
 }
 
 /* ---- threads */
 
+/* Either is how a thread begins. */
 struct beginning {
     void *(*routine)(void *argument);
+    thrd_start_t function;
     void *argument;
 };
+
+static struct beginning *beginning_of(struct stacks *s)
+{
+    return (struct beginning *)(s->own + sizeof s->own) - 1; // at the top of its stack, where no call has been yet
+}
 
 static void end(void *own)
 {
     signals_off(own);
 }
 
-/* What it is to do stands at the top of its stack, where no call has been yet. A thread may have been given a mask by its attributes. */
+/* A thread may have been given a mask by its attributes. */
 static void *begin(void *own)
 {
     struct stacks *s = own;
-    struct beginning b = ((struct beginning *)(s->own + sizeof s->own))[-1];
+    struct beginning b = *beginning_of(s);
     void *result;
     signals_on(s);
     kernel_sigmask(SIG_UNBLOCK, ~actions_mask(ALL_SIGNALS));
     pthread_cleanup_push(end, s);
-    result = b.routine(b.argument);
+    result = b.routine != NULL ? b.routine(b.argument) : (void *)(intptr_t)b.function(b.argument);
     pthread_cleanup_pop(1);
     return result;
+}
+
+static int begin_c11(void *own)
+{
+    return (int)(intptr_t)begin(own);
 }
 
 EXPORTED int pthread_create(pthread_t *thread, const pthread_attr_t *attributes, void *(*routine)(void *), void *argument)
@@ -131,9 +156,21 @@ EXPORTED int pthread_create(pthread_t *thread, const pthread_attr_t *attributes,
     struct stacks *s = stacks_make();
     if (s == NULL)
         return real()->pthread_create(thread, attributes, routine, argument);
-    ((struct beginning *)(s->own + sizeof s->own))[-1] = (struct beginning){routine, argument};
+    *beginning_of(s) = (struct beginning){.routine = routine, .argument = argument};
     int error = real()->pthread_create(thread, attributes, begin, s);
     if (error != 0)
+        stacks_free(s);
+    return error;
+}
+
+EXPORTED int thrd_create(thrd_t *thread, thrd_start_t function, void *argument)
+{
+    struct stacks *s = stacks_make();
+    if (s == NULL)
+        return real()->thrd_create(thread, function, argument);
+    *beginning_of(s) = (struct beginning){.function = function, .argument = argument};
+    int error = real()->thrd_create(thread, begin_c11, s);
+    if (error != thrd_success)
         stacks_free(s);
     return error;
 }

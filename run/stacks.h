@@ -2,11 +2,13 @@
 #ifndef STACKS_H
 #define STACKS_H
 
+#include "self.h"
+
 /* For the first thread, at the start; the others get theirs by pthread_create. */
 void stacks_start(void);
 
 /* Calls a function on this thread's own stack, whatever room is left on the one in use: a program may have set up a small one for signals. What the function
  * left there, keys among it, is then cleared. */
-void call_on_own_stack(void (*function)(void *argument), void *argument);
+void call_on_own_stack(const struct self *self, void (*function)(void *argument), void *argument);
 
 #endif

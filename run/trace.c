@@ -1,10 +1,10 @@
 #include "trace.h"
 
 #include <fcntl.h>
-#include <limits.h>
 #include <signal.h>
-#include <string.h>
+#include <stdatomic.h>
 
+#include "map.h"
 #include "say.h"
 #include "system.h"
 #include "text.h"
@@ -12,13 +12,12 @@
 /* The longest has a handle of 64 bytes, and eight blocks twice. */
 enum { TRACE_ROOM = 2048 };
 
-/* A copy, because programs that rename themselves write over their environment. */
-static char path[PATH_MAX];
+static char path[PATH_ROOM];
 
 void trace_start(const char *named)
 {
-    if (named != NULL && strlen(named) < sizeof path)
-        strcpy(path, named);
+    if (named != NULL)
+        path_copy(path, named);
 }
 
 /* ---- lines */
@@ -111,8 +110,9 @@ static void append(const struct text *t)
         written = SYSTEM(SYS_write, fd, t->room, t->len);
         SYSTEM(SYS_close, fd);
     }
-    if (written != (long)t->len)
-        say_error("a line of the trace is lost", path, written < 0 ? (int)-written : 0);
+    static atomic_flag said = ATOMIC_FLAG_INIT;
+    if (written != (long)t->len && !atomic_flag_test_and_set(&said))
+        say_error("lines of the trace are lost", path, written < 0 ? (int)-written : 0);
 }
 
 void trace(const struct emulated *e)

@@ -7,6 +7,7 @@
  *   client encode FILE       writes a handle; client use FILE uses it, and exits with 1 where it does not open
  *   client loadiwkey         LOADIWKEY, which a program may not execute
  *   client handlers          its own handlers of signals, and the instructions inside of them
+ *   client odd               children that have their parent's memory, C11's threads, and more that few programs do
  *   client closed            when all file descriptors are closed, and nothing but standard output is left
  *   client busy              rounds until it is killed
  *   client execute PROGRAM.. the same environment, another program
@@ -16,6 +17,7 @@
 #include <immintrin.h>
 #include <limits.h>
 #include <pthread.h>
+#include <sched.h>
 #include <setjmp.h>
 #include <signal.h>
 #include <stdatomic.h>
@@ -26,6 +28,7 @@
 #include <string.h>
 #include <sys/mman.h>
 #include <sys/wait.h>
+#include <threads.h>
 #include <unistd.h>
 
 #include "aes.h"
@@ -363,6 +366,81 @@ static int handlers(void)
     return 0;
 }
 
+/* ---- what few programs do */
+
+static int in_child(void *argument)
+{
+    round_of_all(4);
+    return (int)(intptr_t)argument;
+}
+
+__attribute__((noinline)) static pid_t vforked(void)
+{
+    pid_t child = vfork();
+    if (child == 0) {
+        round_of_all(3);
+        _exit(7);
+    }
+    return child;
+}
+
+static void odd_processes(void)
+{
+    int status;
+    for (int i = 0; i < 3; i++) {
+        pid_t child = vforked();
+        NEED(waitpid(child, &status, 0) == child && WIFEXITED(status) && WEXITSTATUS(status) == 7);
+        round_of_all(3);
+    }
+    static uint8_t stack[65536] __attribute__((aligned(16)));
+    struct key key;
+    encode(&key, 16, 0);
+    pid_t child = clone(in_child, stack + sizeof stack, CLONE_VM | SIGCHLD, (void *)5); // at the same time, with this one's variables
+    for (int i = 0; i < 200; i++) {
+        __m128i block = _mm_setzero_si128();
+        NEED(use(&key, true, key.handle, &block) == 0);
+    }
+    NEED(waitpid(child, &status, 0) == child && WIFEXITED(status) && WEXITSTATUS(status) == 5);
+}
+
+static void odd_memory(void)
+{
+    struct key key;
+    __m128i block = _mm_setzero_si128();
+    encode(&key, 32, 0);
+    uint8_t *page = mmap(NULL, 4096, PROT_READ | PROT_WRITE, MAP_PRIVATE | MAP_ANONYMOUS, -1, 0);
+    NEED(page != MAP_FAILED);
+    memcpy(page + 1, key.handle, 64);
+    NEED(mprotect(page, 4096, PROT_WRITE) == 0); // which the processor lets be read
+    __asm__ volatile("pushfq\n\torq $0x40000, (%%rsp)\n\tpopfq" : : : "cc", "memory"); // alignment is checked
+    unsigned zf = use(&key, true, page + 1, &block);
+    __asm__ volatile("pushfq\n\tandq $~0x40000, (%%rsp)\n\tpopfq" : : : "cc", "memory");
+    NEED(zf == 0);
+}
+
+static void odd_signals(void)
+{
+    NEED(sigset(SIGILL, leave) == SIG_DFL && sighold(SIGILL) == 0);
+    round_of_all(5);
+    last = 0;
+    if (sigsetjmp(behind, 1) == 0)
+        __asm__ volatile("ud2");
+    NEED(last == SIGILL && sigignore(SIGILL) == 0);
+    round_of_all(5);
+    NEED(raise(SIGILL) == 0 && signal(SIGILL, SIG_DFL) == SIG_IGN);
+}
+
+static int odd(void)
+{
+    thrd_t thread;
+    int result;
+    odd_processes();
+    odd_memory();
+    odd_signals();
+    NEED(thrd_create(&thread, in_child, (void *)6) == thrd_success && thrd_join(thread, &result) == thrd_success && result == 6);
+    return 0;
+}
+
 static int closed(void)
 {
     for (int fd = 3; fd < 1024; fd++)
@@ -400,6 +478,8 @@ int main(int argc, char **argv)
         _mm_loadiwkey(0, _mm_setzero_si128(), _mm_setzero_si128(), _mm_setzero_si128());
     if (strcmp(what, "handlers") == 0)
         return handlers();
+    if (strcmp(what, "odd") == 0)
+        return odd();
     if (strcmp(what, "closed") == 0)
         return closed();
     while (strcmp(what, "busy") == 0)

@@ -13,6 +13,7 @@
 #include <unistd.h>
 
 #include "machine_file.h"
+#include "map.h"
 
 #define NEED(condition) ((condition) ? (void)0 : failed(#condition, __LINE__))
 
@@ -20,6 +21,12 @@ static _Noreturn void failed(const char *condition, int line)
 {
     fprintf(stderr, "holder.c:%d: not so: %s\n", line, condition);
     exit(1);
+}
+
+static bool take(struct lock *lock, struct holding *holding)
+{
+    struct self self = self_now();
+    return lock_take(lock, &self, holding);
 }
 
 static void die(void)
@@ -36,7 +43,7 @@ static pid_t holder(struct lock *lock, useconds_t later)
     pid_t child = fork();
     if (child == 0) {
         struct holding holding;
-        NEED(lock_take(lock, &holding) && write(ready[1], &byte, 1) == 1);
+        NEED(take(lock, &holding) && write(ready[1], &byte, 1) == 1);
         usleep(later);
         die();
     }
@@ -57,9 +64,12 @@ static void dies_before(struct lock *lock)
     struct holding holding;
     wait_for(holder(lock, 0));
     NEED(lock->word != 0); // it held it
-    NEED(lock_take(lock, &holding));
+    NEED(take(lock, &holding));
     lock_free(lock, &holding);
     NEED(lock->word == 0);
+    lock->word = 0x3FFFFFF0; // of an earlier boot: no thread has this number
+    NEED(take(lock, &holding));
+    lock_free(lock, &holding);
 }
 
 /* All three get it, one after the other, long before they would lose patience. */
@@ -70,7 +80,7 @@ static void dies_meanwhile(struct lock *lock)
     for (int i = 0; i < WAITING; i++)
         if ((waiting[i] = fork()) == 0) {
             struct holding holding;
-            bool taken = lock_take(lock, &holding);
+            bool taken = take(lock, &holding);
             if (taken)
                 lock_free(lock, &holding);
             _exit(taken ? 0 : 1);
@@ -96,7 +106,7 @@ static void *add(void *argument)
     struct shared *s = argument;
     for (int i = 0; i < ADDITIONS; i++) {
         struct holding holding;
-        NEED(lock_take(&s->lock, &holding));
+        NEED(take(&s->lock, &holding));
         s->sum++;
         lock_free(&s->lock, &holding);
     }
@@ -122,8 +132,9 @@ int main(int argc, char **argv)
     if (argc == 3 && strcmp(argv[1], "stops") == 0) {
         int error;
         struct holding holding;
-        struct machine_file *file = machine_file_map(argv[2], &error);
-        NEED(file != NULL && lock_take(&file->lock, &holding));
+        struct machine_file *file = map_file(argv[2], sizeof *file, &error);
+        struct self self = self_now();
+        NEED(file != NULL && lock_take(&file->lock, &self, &holding));
         raise(SIGSTOP);
         lock_free(&file->lock, &holding);
         return 0;
