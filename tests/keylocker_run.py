@@ -339,7 +339,15 @@ def test_fork(tmp):
 def test_handlers(tmp):
     """The program's own handlers, which it leaves by jumps; instructions inside of them; at the end it has none."""
     result = must(run("--count", client(), "handlers"), -signal.SIGILL, "client handlers")
-    need(counts(result.stderr)["loadiwkey"] == (0, 0, 3), result.stderr)
+    need(counts(result.stderr)["loadiwkey"] == (0, 0, 3) and result.stdout == "all\n", result.stdout, result.stderr)
+    for how in ["loadiwkey", "blocked", "ignored"]:
+        must(run(client(), how, timeout=20), -signal.SIGSEGV, f"client {how}")
+
+
+@needs_client
+def test_cleared(tmp):
+    """The stack that the library was called on holds nothing afterwards."""
+    must(run(client(), "cleared"), 0, "client cleared")
 
 
 @needs_client
@@ -387,11 +395,16 @@ def test_machine(tmp):
 
 def test_first(tmp):
     """When several make the machine at once, all have the one that is there in the end."""
-    program = ["python3", "-c", "import os; print(open(os.environ['KEYLOCKER_RUN_MACHINE'], 'rb').read(964).hex())"]
-    processes = [subprocess.Popen([RUN, "-m", tmp / "machine", *program], stdout=subprocess.PIPE, text=True) for _ in range(12)]
-    found = {process.communicate()[0] for process in processes}
-    need(found == {(tmp / "machine").read_bytes()[:964].hex() + "\n"}, "different machines:", len(found))
-    need([file.name for file in tmp.iterdir()] == ["machine"], *tmp.iterdir())
+    for n in range(5):
+        folder = tmp / f"folder{n}"
+        folder.mkdir()
+        traces = [tmp / f"trace{n}-{i}" for i in range(10)]
+        processes = [subprocess.Popen([RUN, "-m", folder / "machine", "-t", trace, "true"], stderr=subprocess.DEVNULL) for trace in traces]
+        need([process.wait() for process in processes] == [0] * 10, "exit statuses")
+        found = {trace.read_text().splitlines()[-1] for trace in traces}
+        machine = block_of(folder / "machine").hex().rstrip("0")
+        need(len(found) == 1 and f"machine = {machine}" in [*found][0], "different machines:", len(found))
+        need([file.name for file in folder.iterdir()] == ["machine"], *folder.iterdir())
 
 
 def block_of(file):
@@ -442,6 +455,10 @@ def test_mode(tmp):
     need("lets others" in must(run("-m", tmp / "machine", "true"), 0, "0644").stderr, "not told")
 
 
+def lock_of(machine):
+    return int.from_bytes(machine.read_bytes()[1024:1028], "little")
+
+
 def test_lock(tmp):
     """Freed where its holder dies; one that stopped holds nobody up for long."""
     holder = built("holder", "-pthread", sources=("run/lock.c", "run/self.c", "run/map.c"))
@@ -450,17 +467,18 @@ def test_lock(tmp):
         return NO_INTRINSICS
     machine = tmp / "machine"
     must(run("-m", machine, "true"), 0, "a new machine")
-    with subprocess.Popen([holder, "stops", machine]) as stopped:
+    stopped = subprocess.Popen([holder, "stops", machine])
+    try:
         os.waitid(os.P_PID, stopped.pid, os.WSTOPPED)
         must(run("-m", machine, client(), "rounds", 3, timeout=30), 0, "beside one that stopped")
-        need(int.from_bytes(machine.read_bytes()[1024:1028], "little") & 0x3FFFFFFF == stopped.pid, "it does not hold the lock any more")
-        copy = tmp / "copy"
-        copy.write_bytes(machine.read_bytes())
+        need(lock_of(machine) & 0x3FFFFFFF == stopped.pid, "it does not hold the lock any more")
+        (tmp / "copy").write_bytes(machine.read_bytes())
+        must(run("-m", tmp / "copy", "true"), 0, "a copy that was made while it was locked")
+        need(lock_of(tmp / "copy") == 0, "the lock of the copy stays")
+    finally:
         stopped.send_signal(signal.SIGCONT)
-    began = time.monotonic()
-    must(run("-m", copy, client(), "rounds", 1), 0, "a copy that was made while it was locked")
-    need(int.from_bytes(copy.read_bytes()[1024:1028], "little") == 0, "the lock of the copy stays")
-    need(time.monotonic() - began < 20, "slow")
+        stopped.wait()
+    need(lock_of(machine) == 0, "the lock is not free")
 
 
 @needs_client
@@ -543,8 +561,9 @@ def test_cpuid(tmp):
     need(hosts.returncode == 6, "with --host-cpuid a CPUID that faults is the program's own")
     if client():  # and with another's handlers of SIGSEGV
         must(command(*faulting, client(), "rounds", 3), 0, "client rounds where CPUID faults")
-        must(command(*faulting, client(), "handlers"), -signal.SIGILL, "client handlers where CPUID faults")
-        must(command(*faulting, client(), "loadiwkey"), -signal.SIGSEGV, "client loadiwkey where CPUID faults")
+        need(must(command(*faulting, client(), "handlers"), -signal.SIGILL, "handlers where CPUID faults").stdout == "all\n", "handlers where CPUID faults")
+        for how in ["loadiwkey", "blocked", "ignored"]:
+            must(command(*faulting, client(), how, timeout=20), -signal.SIGSEGV, f"client {how} where CPUID faults")
 
 
 # ---- the front program
@@ -589,7 +608,9 @@ def test_programs(tmp):
     must(run(tmp / "script"), 3, "a script without a first line")
     inner = must(run("--count", "--trace", tmp / "trace", RUN, "printenv"), 0, "keylocker-run in itself").stdout
     need("KEYLOCKER_RUN_MACHINE=" in inner and "KEYLOCKER_RUN_TRACE=" not in inner and inner.count(str(OBJECT)) == 1, inner)
-    must(command("python3", "-c", f"import os, signal; signal.signal(signal.SIGCHLD, signal.SIG_IGN); os.execv({str(RUN)!r}, ['run', 'false'])"), 1, "SIGCHLD")
+    for options in [[], ["--count"]]:
+        python = f"import os, signal; signal.signal(signal.SIGCHLD, signal.SIG_IGN); os.execv({str(RUN)!r}, ['run', *{options!r}, 'false'])"
+        must(command(sys.executable, "-c", python), 1, f"children are ignored {options}")
     must(run("sh", "-c", "exit 4", env={}), 4, "without PATH")
     for number in [0, signal.SIGTERM, signal.SIGKILL, signal.SIGSEGV, signal.SIGILL]:
         machine = must(run("sh", "-c", f"ls $KEYLOCKER_RUN_MACHINE && kill -{number:d} $$"), -number, f"ended by {number}").stdout.strip()

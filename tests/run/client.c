@@ -6,6 +6,8 @@
  *   client fork ROUNDS       the same in two processes, of which one uses a handle of the other
  *   client encode FILE       writes a handle; client use FILE uses it, and exits with 1 where it does not open
  *   client loadiwkey         LOADIWKEY, which a program may not execute
+ *   client blocked           the same where SIGSEGV is blocked; client ignored, where it is ignored
+ *   client cleared           what the library's stack holds afterwards: one of 16 KiB between pages that cannot be touched
  *   client handlers          its own handlers of signals, and the instructions inside of them
  *   client odd               children that have their parent's memory, C11's threads, and more that few programs do
  *   client closed            when all file descriptors are closed, and nothing but standard output is left
@@ -362,8 +364,41 @@ static int handlers(void)
     set(SIGUSR1, round_in_handler, 0); // with all signals blocked
     NEED(raise(SIGUSR1) == 0 && last == SIGUSR1);
     NEED(signal(SIGILL, SIG_DFL) == (handler_fn *)(void *)skip_ud2);
+    puts("all");
+    fflush(stdout);
     __asm__ volatile("ud2"); // and now it ends
     return 0;
+}
+
+static _Noreturn void load(void)
+{
+    _mm_loadiwkey(0, _mm_setzero_si128(), _mm_setzero_si128(), _mm_setzero_si128());
+    exit(2);
+}
+
+static void load_blocked(void)
+{
+    sigset_t all;
+    sigfillset(&all);
+    NEED(sigprocmask(SIG_BLOCK, &all, NULL) == 0);
+    load();
+}
+
+static int cleared(void)
+{
+    uint8_t *begin, *end, *guard_end = NULL;
+    char line[512], mode[8];
+    int found = 0;
+    FILE *maps = fopen("/proc/self/maps", "r");
+    rounds(1);
+    while (maps != NULL && fgets(line, sizeof line, maps) != NULL && sscanf(line, "%p-%p %7s", (void **)&begin, (void **)&end, mode) == 3) {
+        bool is_stack = begin == guard_end && end - begin == 16384 && strcmp(mode, "rw-p") == 0;
+        for (size_t i = 0; is_stack && i < 16384; i++)
+            NEED(begin[i] == 0);
+        found += is_stack;
+        guard_end = strcmp(mode, "---p") == 0 ? end : NULL;
+    }
+    return found == 1 ? 0 : 3;
 }
 
 /* ---- what few programs do */
@@ -474,8 +509,14 @@ int main(int argc, char **argv)
         return encode_to(argv[2]);
     if (strcmp(what, "use") == 0)
         return use_from(argv[2]);
-    if (strcmp(what, "loadiwkey") == 0)
-        _mm_loadiwkey(0, _mm_setzero_si128(), _mm_setzero_si128(), _mm_setzero_si128());
+    if (strcmp(what, "ignored") == 0)
+        NEED(signal(SIGSEGV, SIG_IGN) == SIG_DFL);
+    if (strcmp(what, "loadiwkey") == 0 || strcmp(what, "ignored") == 0)
+        load();
+    if (strcmp(what, "blocked") == 0)
+        load_blocked();
+    if (strcmp(what, "cleared") == 0)
+        return cleared();
     if (strcmp(what, "handlers") == 0)
         return handlers();
     if (strcmp(what, "odd") == 0)
