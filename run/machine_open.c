@@ -7,7 +7,6 @@
 #include <string.h>
 #include <sys/mman.h>
 #include <sys/stat.h>
-#include <sys/sysmacros.h>
 #include <unistd.h>
 
 #include "fail.h"
@@ -85,8 +84,8 @@ static void make_file(const char *path, const uint8_t *iwkey)
 
 /* ---- opening */
 
-/* Whether a thread's process has the file mapped: its maps have a line with device and inode. */
-static bool has_mapped(long thread, const struct stat *file)
+/* Whether a thread's process has the file mapped: its maps have a line with the inode. The device there is another than stat's on some filesystems. */
+static bool has_mapped(long thread, ino_t file)
 {
     char name[64], *line = NULL;
     size_t room = 0;
@@ -94,9 +93,8 @@ static bool has_mapped(long thread, const struct stat *file)
     snprintf(name, sizeof name, "/proc/%ld/maps", thread);
     FILE *maps = fopen(name, "re");
     while (maps != NULL && !found && getline(&line, &room, maps) > 0) {
-        unsigned major, minor;
         unsigned long long inode;
-        found = sscanf(line, "%*s %*s %*s %x:%x %llu", &major, &minor, &inode) == 3 && makedev(major, minor) == file->st_dev && inode == file->st_ino;
+        found = sscanf(line, "%*s %*s %*s %*s %llu", &inode) == 1 && inode == file;
     }
     free(line);
     if (maps != NULL)
@@ -105,12 +103,12 @@ static bool has_mapped(long thread, const struct stat *file)
 }
 
 /* What stands in the lock may be of an earlier boot, or of the file that this one is a copy of. */
-static void clear_stale_lock(const char *path, const struct stat *status)
+static void clear_stale_lock(const char *path, ino_t inode)
 {
     int error;
     struct machine_file *file = map_file(path, sizeof *file, &error);
     long holder = file == NULL ? 0 : lock_holder(&file->lock);
-    if (holder != 0 && !has_mapped(holder, status))
+    if (holder != 0 && !has_mapped(holder, inode))
         lock_clear(&file->lock, holder);
     if (file != NULL)
         munmap(file, sizeof *file);
@@ -129,7 +127,7 @@ static void look_at(int fd, const char *path, const uint8_t *iwkey, struct machi
     const char *fault = machine_file_fault(held, (size_t)len);
     if (fault != NULL)
         fail(EXIT_OURS, "%s: %s. It is left as it is", path, fault);
-    clear_stale_lock(path, &status);
+    clear_stale_lock(path, status.st_ino);
     if (status.st_mode & S_IRWXO)
         fprintf(stderr, "keylocker-run: %s: its mode lets others use it, and read the IWKey\n", path);
     if (iwkey != NULL && memcmp(held->block + KEYLOCKER_MACHINE_ENTRIES, iwkey, IWKEY_BYTES) != 0)
