@@ -350,6 +350,22 @@ def test_cleared(tmp):
     must(run(client(), "cleared"), 0, "client cleared")
 
 
+def test_library(tmp):
+    """A library that a program is linked with may use the instructions in its constructor."""
+    (tmp / "library.c").write_text("""
+#include <stdio.h>
+__attribute__((constructor)) static void early(void)
+{
+    __asm__ volatile("xor %%ecx, %%ecx\\n\\t.byte 0xF3, 0x0F, 0x38, 0xFA, 0xC9" : : : "rcx", "xmm0", "xmm1", "xmm2", "xmm4", "xmm5", "xmm6", "cc");
+}
+int value(void) { return 7; }
+""")
+    (tmp / "main.c").write_text("int value(void); int main(void) { return value(); }\n")
+    must(command("gcc", "-shared", "-fPIC", "library.c", "-o", "library.so", cwd=tmp), 0, "gcc library.c")
+    must(command("gcc", "main.c", "./library.so", "-o", "main", cwd=tmp), 0, "gcc main.c")
+    need(counts(must(run("--count", "./main", cwd=tmp), 7, "a library's constructor").stderr) == {"encodekey128": (1, 0, 0)}, "not emulated")
+
+
 @needs_client
 def test_odd(tmp):
     """Children that have their parent's memory, C11's threads, pages that may only be written, alignment that is checked, functions of System V, a program that has
@@ -632,7 +648,7 @@ def test_later_damage(tmp):
 
 def test_forwarded(tmp):
     """Signals that a process sends keylocker-run reach the program."""
-    program = "trap 'echo USR1; exit 5' USR1; trap 'echo TERM; exit 6' TERM; echo ready; while :; do sleep 0.05; done"
+    program = "trap 'echo USR1; exit 5' USR1; trap 'echo TERM; exit 6' TERM; echo ready; for i in $(seq 200); do sleep 0.05; done"
     for number, status, options in [(signal.SIGUSR1, 5, []), (signal.SIGTERM, 6, []), (signal.SIGUSR1, 5, ["-c"]), (signal.SIGTERM, 6, ["-c"])]:
         with subprocess.Popen([RUN, *options, "sh", "-c", program], stdout=subprocess.PIPE, stderr=subprocess.DEVNULL, text=True) as process:
             need(process.stdout.readline() == "ready\n", "not ready")
@@ -643,7 +659,7 @@ def test_forwarded(tmp):
 def test_its_own(tmp):
     """Without --count the program is the process that was started: its children are its own, and it stops and goes on like any other."""
     python = "import os, sys; print(os.getpid()); os.wait()"
-    result = run(sys.executable, "-c", python)
+    result = run(sys.executable, "-c", python, timeout=20)
     need("ChildProcessError" in result.stderr, "it has a child that is not its own", result.stderr)
     with subprocess.Popen([RUN, "sh", "-c", "kill -STOP $$; exit 9"]) as process:
         stopped = os.waitid(os.P_PID, process.pid, os.WSTOPPED)
@@ -663,6 +679,10 @@ def test_started_oddly(tmp):
             must(command("sh", "-c", f"{RUN} -m {machine} {' '.join(options)} true <&- >&- 2>&-"), 0, "closed")
         asks = [sys.executable, "-c", "import os, sys\ntry: os.fstat(2)\nexcept OSError: sys.exit(8)"]
         must(command("sh", "-c", 'exec "$@" 2>&-', "sh", RUN, "-m", machine, *options, *asks), 8, "standard error, which was closed")
+    (tmp / "other").write_bytes(IWKEY)
+    before = machine.read_bytes()
+    must(command("sh", "-c", f"{RUN} -m {machine} -k {tmp}/other true 2>&-"), 125, "another IWKey, and nowhere to say so")
+    need(machine.read_bytes() == before, "a message was written into the machine")
     must(command("sh", "-c", f"flock {machine} {RUN} -m {machine} true", timeout=20), 0, "a machine that somebody has locked")
 
 
