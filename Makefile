@@ -136,7 +136,7 @@ test-install: all
 
 # ---- measuring
 
-bench: build/bench_aes build/bench_keywrap build/bench_keylocker build/bench_keyring $(RUN_BUILT) build/bench_run build/test_stack
+bench: build/bench_aes build/bench_keywrap build/bench_keylocker build/bench_keyring $(if $(RUN_BUILT),$(RUN_BUILT) build/bench_run) build/test_stack
 	./build/bench_aes
 	@echo
 	./build/bench_keywrap

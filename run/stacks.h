@@ -4,7 +4,7 @@
 
 #include "self.h"
 
-/* For the first thread, at the start; the others get theirs by pthread_create. */
+/* For the first thread, at the start; the others get theirs by pthread_create and thrd_create. */
 void stacks_start(void);
 
 /* Calls a function on this thread's own stack, whatever room is left on the one in use: a program may have set up a small one for signals. What the function

@@ -1,5 +1,5 @@
-/* Instruction strings read for people: which instruction it is, its operands as text, and where its handle is. The library decodes for itself; what is told
- * here is tested against that, and proved nowhere. */
+/* Instruction strings: which instruction it is, its operands as text, and where its handle is. The library decodes for itself, and the simulator only tells
+ * people what is found here; keylocker-run reads a program's handle by it. It is tested against the library, and proved nowhere. */
 #ifndef DECODE_H
 #define DECODE_H
 

@@ -3,6 +3,7 @@
  *   holder dies         one that dies frees it, for one that comes later and for ones that wait; threads and processes exclude each other
  *   holder stops FILE   takes the lock of the file and stops */
 
+#include <linux/futex.h>
 #include <pthread.h>
 #include <signal.h>
 #include <stdio.h>
@@ -63,7 +64,7 @@ static void dies_before(struct lock *lock)
 {
     struct holding holding;
     wait_for(holder(lock, 0));
-    NEED(lock->word != 0); // it held it
+    NEED(lock->word == FUTEX_OWNER_DIED); // it held it, and the kernel has freed it: nobody has to lose patience first
     NEED(take(lock, &holding));
     lock_free(lock, &holding);
     NEED(lock->word == 0);
