@@ -1,4 +1,6 @@
 // Addresses of handles: where a memory place is, and whether every byte of a handle there can be loaded.
+#![tactic(auto)]
+
 ghost use Rattle.std.specs.Prelude.{◌≡◌, ◌*◌, ◌%◌, ◌^◌, ◌<◌, length};
 ghost use Rattle.isa.specs.Address as isa;
 ghost use Rattle.isa.specs.Ranges.{handle_length, some_not_canonical, some_outside};

@@ -1,4 +1,6 @@
 // Cipher: blocks under one key schedule, by a table of mixed columns.
+#![tactic(auto)]
+
 ghost use Rattle.std.specs.Prelude.{◌≡◌, ◌/◌, ◌≤◌, length};
 ghost use Rattle.bits.specs.Blocks.{map_blocks};
 ghost use Rattle.bits.specs.Words.{le_words};

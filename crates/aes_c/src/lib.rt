@@ -1,4 +1,6 @@
 // The product's AES with its tables made for each call, and the same for C callers, which bench/ measures: a `size` of 0 is AES-128, any other AES-256.
+#![tactic(auto)]
+
 ghost use Rattle.std.specs.Prelude.{◌≡◌, ◌/◌, ◌*◌, length, take};
 ghost use Rattle.bits.specs.Blocks.{map_blocks};
 ghost use Rattle.bits.specs.Words.{le_words};

@@ -1,4 +1,6 @@
 // KeyExpansion, of FIPS 197 section 5.2, over the number of words in the key, nk.
+#![tactic(auto)]
+
 ghost use Rattle.std.specs.Prelude.{◌≡◌, ◌++◌, take, drop, replicate, ◌+◌, ◌*◌, ◌/◌, ◌%◌, ◌≤◌, ◌<◌};
 ghost use Rattle.bits.specs.Words.{le_bytes, le_words};
 ghost use Rattle.fips197.specs.Sbox.{SboxTable};

@@ -1,4 +1,6 @@
 // Cipher by four tables of mixed columns, where enough blocks follow to pay for them: no word is turned in a round.
+#![tactic(auto)]
+
 ghost use Rattle.std.specs.Prelude.{◌≡◌, List, ℕ, ◌≤◌, length};
 ghost use Rattle.bits.specs.Blocks.{map_blocks};
 ghost use Rattle.bits.specs.Words.{le_words};
@@ -48,7 +50,7 @@ fn cipher_one(tables: &[u32; 1024], sbox: &[u8; 256], w: &[u32; 60], n: usize, b
 }
 
 // Two blocks.
-#[derive(Drop)]
+#[derive(Clone, Copy)]
 pub struct Pair {
     pub first: Block,
     pub second: Block,

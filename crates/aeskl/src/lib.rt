@@ -1,4 +1,6 @@
 // The eight uses of a handle (Intel 343965-001US 3.2 to 3.9), over one IWKey, the handle and the CPU record.
+#![tactic(auto)]
+
 ghost use Rattle.std.specs.Prelude.{◌≡◌, [], ◌∷◌, ◌/◌, length};
 ghost use Rattle.bits.specs.Blocks.{map_blocks};
 ghost use Rattle.fips197.specs.Sbox.{SboxTable};
@@ -120,14 +122,14 @@ fn cipher_blocks(
 // ---- a use, over its blocks by value
 
 // A block after a use, and ZF.
-#[derive(Drop)]
+#[derive(Clone, Copy)]
 pub(crate) struct UsedBlock {
     pub zf: bool,
     pub block: Block,
 }
 
 // XMM0 to XMM7 after a use, and ZF.
-#[derive(Drop)]
+#[derive(Clone, Copy)]
 pub(crate) struct UsedBlocks {
     pub zf: bool,
     pub blocks: [u8; 128],

@@ -1,4 +1,6 @@
 // Counter mode over a lent buffer, under a handle (change request (vii)): tested, and done by the IWKey of one processor. The machine is only read.
+#![tactic(auto)]
+
 ghost use Rattle.std.specs.Prelude.{◌≡◌, false, true, cond, [], length};
 ghost use Rattle.fips197.specs.declared.Direction.TheVariants.{Encrypt};
 ghost use Rattle.isa.specs.Ranges.{handle_length};
@@ -124,7 +126,7 @@ fn perform(wide: bool, k: IwKey, cpu: &mut [u8], handle: &[u8], counter: &[u8], 
     requires cpu_len { length cpu.old ≡ cpu_size }
     requires handle_len { length handle.now ≡ handle_length (size_of handle.now) }
     requires counter_len { length counter.now ≡ 16 }
-    ensures { record { cpu = cpu.exit.now; buffer = buffer.new } ≡ counted (record { processor = 0; cpu = cpu.entry.now; handle = handle.now; counter = counter.now; buffer = buffer.old }) k }
+    ensures { record { cpu = cpu.new; buffer = buffer.new } ≡ counted (record { processor = 0; cpu = cpu.old; handle = handle.now; counter = counter.now; buffer = buffer.old }) k }
 {
     let size = size_of(handle);
     let h = handle_at(handle, 0, size);

@@ -1,4 +1,6 @@
 // CPUID: what leaf 7 and leaf 0x19 tell of Key Locker, from the feature byte and the control bits of a CPU record.
+#![tactic(auto)]
+
 ghost use Rattle.std.specs.Prelude.{◌≡◌, true, cond, ◌≤◌};
 ghost use Rattle.model.specs.Records.{key_locker};
 ghost use Rattle.cpuid_model.specs.Leaves as leaves;

@@ -1,5 +1,7 @@
 // Counter mode (NIST SP 800-38A section 6.5) over the bytes of a slice, in place, by lent tables. The cipher is that of the table of mixed columns, whatever it
 // holds; four tables made from it do the same in less time.
+#![tactic(auto)]
+
 ghost use Rattle.std.specs.Prelude.{◌≡◌, ℕ, ◌+◌, ◌*◌, ◌/◌, ◌%◌, ◌≤◌, List, length};
 ghost use Rattle.fips197.specs.Sizes.{nr};
 ghost use Rattle.aes.specs.Meaning.{bytes_of, schedule};
@@ -19,7 +21,7 @@ use aes_ttables::{encrypt_block, encrypt_eight};
 use fips197::KeySize;
 
 // The number that a counter block stands for, in two halves.
-#[derive(Drop)]
+#[derive(Clone, Copy)]
 pub(crate) struct Counter {
     pub high: u64,
     pub low: u64,

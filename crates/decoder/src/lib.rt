@@ -1,4 +1,6 @@
 // The decoder of instruction strings, from the prefixes to ModRM: one small function for each byte, each calling the next.
+#![tactic(auto)]
+
 ghost use Rattle.std.specs.Prelude.{◌≡◌};
 ghost use Rattle.isa.specs.Decode as isa;
 

@@ -5,7 +5,7 @@
 use crate::text::{print, print_decoded};
 use reader::decode;
 
-#[derive(Drop)]
+#[derive(Clone, Copy)]
 pub struct Line {
     pub bytes: [u8; 16],
     pub digits: usize,

@@ -1,4 +1,6 @@
 // A disassembler of Key Locker's instructions over the proved decoder: for each line of hexadecimal digits on standard input it prints one line.
+#![tactic(auto)]
+
 mod line;
 mod text;
 

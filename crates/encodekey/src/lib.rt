@@ -1,4 +1,6 @@
 // ENCODEKEY128 and ENCODEKEY256 (Intel 343965-001US 3.10 and 3.11), over one IWKey and the CPU record.
+#![tactic(auto)]
+
 ghost use Rattle.std.specs.Prelude.{◌≡◌, ◌*◌, length, take, replicate};
 ghost use Rattle.std.proofs.lemmas.List.Edits.{sets};
 ghost use Rattle.aes.specs.Meaning.{bytes_of};

@@ -1,4 +1,6 @@
 // One instruction, over one IWKey, the CPU record, memory and random data.
+#![tactic(auto)]
+
 ghost use Rattle.std.specs.Prelude.{◌≡◌, ℕ, ◌+◌, ◌≤◌, Bool, [], length};
 ghost use Rattle.isa.specs.Ranges.{handle_length};
 ghost use Rattle.isa.specs.declared.Decoded.TheVariants as decoded;

@@ -1,29 +1,31 @@
 // Key Locker instructions as they stand in a string, and their operands. Definitions and laws; the code is in `address`.
+#![tactic(auto)]
+
 use fips197::{Direction, KeySize};
 
 // The base of a memory place; a register is a number below 16.
-#[derive(Drop)]
+#[derive(Clone, Copy)]
 pub enum Base {
     None,
     Rip,
     Register(u8),
 }
 
-#[derive(Drop)]
+#[derive(Clone, Copy)]
 pub enum Index {
     None,
     Register(u8),
 }
 
 // The address size of 64-bit mode: 64 bits, or 32 with the address-size prefix 67.
-#[derive(Drop)]
+#[derive(Clone, Copy)]
 pub enum AddressSize {
     Bits64,
     Bits32,
 }
 
 // Base + index * 2^scale + displacement, which is sign-extended to 64 bits; as many bits of it as the address size has.
-#[derive(Drop)]
+#[derive(Clone, Copy)]
 pub struct MemoryPlace {
     pub base: Base,
     pub index: Index,
@@ -32,14 +34,14 @@ pub struct MemoryPlace {
     pub displacement: u64,
 }
 
-#[derive(Drop)]
+#[derive(Clone, Copy)]
 pub enum Operand {
     Register(u8),
     Memory(MemoryPlace),
 }
 
 // AESENC128KL, AESDEC128KL, AESENC256KL, AESDEC256KL: the block is an XMM register.
-#[derive(Drop)]
+#[derive(Clone, Copy)]
 pub struct Use {
     pub direction: Direction,
     pub size: KeySize,
@@ -48,7 +50,7 @@ pub struct Use {
 }
 
 // The wide forms: the blocks are XMM0 to XMM7.
-#[derive(Drop)]
+#[derive(Clone, Copy)]
 pub struct WideUse {
     pub direction: Direction,
     pub size: KeySize,
@@ -56,21 +58,21 @@ pub struct WideUse {
 }
 
 // LOADIWKEY: both are XMM registers.
-#[derive(Drop)]
+#[derive(Clone, Copy)]
 pub struct LoadIwKey {
     pub src1: u8,
     pub src2: Operand,
 }
 
 // ENCODEKEY128, ENCODEKEY256: both are general registers.
-#[derive(Drop)]
+#[derive(Clone, Copy)]
 pub struct EncodeKey {
     pub size: KeySize,
     pub destination: u8,
     pub source: Operand,
 }
 
-#[derive(Drop)]
+#[derive(Clone, Copy)]
 pub enum Instruction {
     Use(Use),
     WideUse(WideUse),
@@ -78,14 +80,14 @@ pub enum Instruction {
     EncodeKey(EncodeKey),
 }
 
-#[derive(Drop)]
+#[derive(Clone, Copy)]
 pub enum Segment {
     Data,
     Stack,
 }
 
 // Where a handle is loaded from.
-#[derive(Drop)]
+#[derive(Clone, Copy)]
 pub struct Address {
     pub linear: u64,
     pub segment: Segment,
@@ -94,21 +96,21 @@ pub struct Address {
 // ---- reading
 
 // What stands at a position, and the position behind it.
-#[derive(Drop)]
+#[derive(Clone, Copy)]
 pub enum Step {
     Byte { value: u8, next: usize },
     End,
 }
 
 // A displacement, sign-extended to 64 bits, and the position behind it.
-#[derive(Drop)]
+#[derive(Clone, Copy)]
 pub enum Displacement {
     Found { value: u64, next: usize },
     End,
 }
 
 // What the prefixes say: LOCK, the address size, and the bits R, X and B of REX.
-#[derive(Drop)]
+#[derive(Clone, Copy)]
 pub struct Prefixes {
     pub lock: bool,
     pub address_size: AddressSize,
@@ -118,7 +120,7 @@ pub struct Prefixes {
 }
 
 // The register of ModRM's reg field, the operand of its r/m field, and the position behind them.
-#[derive(Drop)]
+#[derive(Clone, Copy)]
 pub enum Operands {
     Found { reg: u8, rm: Operand, next: usize },
     End,
@@ -126,7 +128,7 @@ pub enum Operands {
 
 // An instruction, LOCK seen or not, and the position behind it; or a byte that no instruction has there; or the string's end inside an instruction; or no byte
 // at all.
-#[derive(Drop)]
+#[derive(Clone, Copy)]
 pub enum Decoded {
     Found {
         what: Instruction,

@@ -1,4 +1,6 @@
 // The calls for C: the machine is lent as 924 bytes. Each answers 0, or the number of the refusal, which leaves every lent byte.
+#![tactic(auto)]
+
 ghost use Rattle.std.specs.Prelude.{◌≡◌, length};
 ghost use Rattle.model.specs.Layout.{machine_size};
 ghost use Rattle.keylocker.specs.Meaning.{called, finished};
@@ -192,7 +194,7 @@ pub extern "C" fn keylocker_cpuid(
     ecx: &mut u32,
     edx: &mut u32,
 ) -> u32
-    ensures { CpuidPromise machine.now (record { cpu = cpu.entry.now; leaf = leaf; subleaf = subleaf }) (record { eax = eax.entry.now; ebx = ebx.old; ecx = ecx.old; edx = edx.old }) (record { eax = eax.exit.now; ebx = ebx.new; ecx = ecx.new; edx = edx.new }) result }
+    ensures { CpuidPromise machine.now (record { cpu = cpu.now; leaf = leaf; subleaf = subleaf }) (record { eax = eax.old; ebx = ebx.old; ecx = ecx.old; edx = edx.old }) (record { eax = eax.new; ebx = ebx.new; ecx = ecx.new; edx = edx.new }) result }
 {
     if machine.len() != MACHINE_SIZE {
         return 1;

@@ -1,4 +1,6 @@
 // A keyring: handles kept by label, in 80-byte records on sixteen chains. Both calls have an answer for every block, label and handle.
+#![tactic(auto)]
+
 ghost use Rattle.std.specs.Prelude.{◌≡◌, true, cond, ◌&&◌, ◌||◌, ◌+◌, ◌-◌, ◌*◌, ◌≤◌, ◌<◌, eqb, length, take, drop, replicate};
 ghost use Rattle.std.proofs.lemmas.List.Edits.{sets};
 ghost use Rattle.bits.specs.Words.{le_bytes};
@@ -24,27 +26,27 @@ const HANDLE_256: usize = 64;
 const MARKS: usize = 819;
 
 // A record's index, or none.
-#[derive(Drop)]
+#[derive(Clone, Copy)]
 pub enum Found {
     At(usize),
     Nothing,
 }
 
 // What a lookup answers: the kind, or the refusal's number.
-#[derive(Drop)]
+#[derive(Clone, Copy)]
 pub enum Answer {
     Found(u8),
     Refused(u8),
 }
 
 // The handle is zero-filled, and all zero where the lookup is refused.
-#[derive(Drop)]
+#[derive(Clone, Copy)]
 pub struct Looked {
     pub answer: Answer,
     pub handle: [u8; 64],
 }
 
-#[derive(Drop)]
+#[derive(Clone, Copy)]
 pub enum Added {
     Done,
     Refused(u8),

@@ -1,4 +1,6 @@
 // Refusal 15 of a keyring: its fields, and then its chains, whose records are marked.
+#![tactic(auto)]
+
 ghost use Rattle.std.specs.Prelude.{◌≡◌, true, ◌&&◌, ◌+◌, ◌*◌, ◌%◌, ◌≤◌, ◌<◌, eqb, leb, length, get_or};
 ghost use Rattle.keyring_model.specs.Records as records;
 ghost use Rattle.keyring_model.specs.Chains.{chain, reached};

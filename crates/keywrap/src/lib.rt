@@ -1,4 +1,6 @@
 // Handles of Intel's 343965-001US: AES-GCM-SIV of RFC 8452 without a nonce.
+#![tactic(auto)]
+
 use aes::{Block, Key};
 
 mod hash;
@@ -6,7 +8,7 @@ pub mod siv;
 pub mod tables;
 
 // A handle: for a key of 128 bits the high half of the ciphertext is not read.
-#[derive(Drop)]
+#[derive(Clone, Copy)]
 pub struct Handle {
     pub aad: Block,
     pub tag: Block,
@@ -14,7 +16,7 @@ pub struct Handle {
 }
 
 // What unwrapping gives: only an authentic handle hands out a key.
-#[derive(Drop)]
+#[derive(Clone, Copy)]
 pub enum Unwrapped {
     Key(Key),
     Refused,

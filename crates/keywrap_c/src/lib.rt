@@ -1,5 +1,7 @@
 // Unwrapping with its tables made, and POLYVAL, wrapping and unwrapping for C callers, which bench/ measures. A `size` of 0 is AES-128, any other AES-256;
 // of a key or handle for AES-128 the last 16 bytes are not read, and written as zeros.
+#![tactic(auto)]
+
 ghost use Rattle.std.specs.Prelude.{◌≡◌, ◌/◌, ◌+◌, ◌*◌, length, take};
 ghost use Rattle.bits.specs.Blocks.{blocks};
 ghost use Rattle.rfc8452.specs.Polyval as rfc;

@@ -1,5 +1,7 @@
 // The scope, "Records": "For C it is lent as 924 bytes". The machine in them. A call reads them all, so bytes go in runs of fixed length, which are
 // compiled to wide moves.
+#![tactic(auto)]
+
 ghost use Rattle.std.specs.Prelude.{◌≡◌, ◌+◌, ◌*◌, ◌%◌, ◌≤◌, ◌<◌, length, drop};
 ghost use Rattle.std.proofs.lemmas.List.Edits.{sets};
 ghost use Rattle.model.specs.Numbers.{part};

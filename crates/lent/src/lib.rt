@@ -1,5 +1,7 @@
 // A step with the machine by value, and on a lent machine: it is found advanced after the call, and as it was where that is refused; so is the CPU record.
 // The borrow checker covers no function over a reference to a struct, and none that lends one: `step_lent` and `step_through` are thin and proved by hand.
+#![tactic(auto)]
+
 ghost use Rattle.std.specs.Prelude.{◌≡◌};
 ghost use Rattle.model.specs.Calls.{step};
 ghost use Rattle.model.specs.Execution as execution;
@@ -10,7 +12,7 @@ use model::Machine;
 use step::Answer;
 
 // The machine after a step, and the answer. The CPU record is lent.
-#[derive(Drop)]
+#[derive(Clone, Copy)]
 pub struct Stepped {
     pub machine: Machine,
     pub answer: Answer,

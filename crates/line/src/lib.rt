@@ -1,5 +1,7 @@
 // A line of a program's standard input: a name, a blank, and 960 bytes. Two hexadecimal digits are a byte, '.' sixteen zeros and ',' eight; other
 // characters say nothing, and zeros follow the last byte.
+#![tactic(auto)]
+
 ghost use Rattle.std.specs.Prelude.{◌<◌, ◌≤◌, length};
 
 // Where text has c, from a place on; its end where it has none.

@@ -1,4 +1,6 @@
 // LOADIWKEY (Intel 343965-001US 3.12), over one IWKey and the CPU record.
+#![tactic(auto)]
+
 ghost use Rattle.std.specs.Prelude.{◌≡◌, ◌++◌, ◌≤◌, length};
 ghost use Rattle.bits.specs.Bytes.{xor_bytes};
 ghost use Rattle.aes.specs.Meaning.{bytes_of};
@@ -16,7 +18,7 @@ use isa::LoadIwKey;
 use model::IwKey;
 
 // What the random number generator gives; nothing where it is not ready.
-#[derive(Drop)]
+#[derive(Clone, Copy)]
 pub struct Random {
     pub ready: bool,
     pub bytes: [u8; 48],

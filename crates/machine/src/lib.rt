@@ -1,4 +1,6 @@
 // The machine by value: power-on, register calls, settle, sleep, reset, taken, and CPUID. A step is in `step`.
+#![tactic(auto)]
+
 ghost use Rattle.std.specs.Prelude.{◌≡◌, ◌%◌, get_or, set, replicate};
 ghost use Rattle.model.specs.Calls.{read, write, settle, sleep, reset, taken};
 ghost use Rattle.model.specs.Execution as execution;
@@ -18,7 +20,7 @@ use step::Answer;
 use validity::valid;
 
 // The machine after a call, its answer, and the value read.
-#[derive(Drop)]
+#[derive(Clone, Copy)]
 pub struct Outcome {
     pub machine: Machine,
     pub answer: Answer,
@@ -211,7 +213,7 @@ pub fn write(m: Machine, processor: u8, cpl: u8, address: u32, value: u64) -> Ou
 // ---- CPUID
 
 // The answer, and the four registers.
-#[derive(Drop)]
+#[derive(Clone, Copy)]
 pub struct Identified {
     pub answer: Answer,
     pub registers: Leaf,
@@ -232,7 +234,7 @@ fn unidentified(n: u8) -> Identified
 }
 
 pub fn cpuid(m: Machine, cpu: &[u8], leaf: u32, subleaf: u32) -> Identified
-    ensures { result ≡ identified_of (identify m (record { cpu = cpu.entry.now; leaf = leaf; subleaf = subleaf })) }
+    ensures { result ≡ identified_of (identify m (record { cpu = cpu.now; leaf = leaf; subleaf = subleaf })) }
 {
     if !valid(m) {
         return unidentified(1);

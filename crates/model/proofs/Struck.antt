@@ -41,5 +41,5 @@ module _ (out : Call → Bool) where
     pub struck-run : (m n : Machine) → R m n → (calls : List Call) → R (run m calls).machine (run n (struck out calls)).machine
     struck-run m n h [] = h
     struck-run m n h (c ∷ l) =
-        on_cond (λ (k : List Call). R (run (call m c).machine l).machine (run n k).machine) (out c) _ _ (λ e. struck-run _ _ (unseen m n h c e) l)
-        (λ e. struck-run _ _ (kept m n h c) l)
+        on_cond (λ (k : List Call). R (run (call m c).machine l).machine (run n k).machine) (out c) _ _ (λ e. struck-run (call m c).machine n (unseen m n h c e) l)
+        (λ e. struck-run (call m c).machine (call n c).machine (kept m n h c) l)

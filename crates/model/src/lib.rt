@@ -1,4 +1,5 @@
 // The emulated machine: its records. The definitions are in specs/, the laws in proofs/; the code is in `step` and `machine`.
+#![tactic(auto)]
 
 // Bits of the feature byte.
 pub const KEY_LOCKER: u8 = 0;
@@ -14,7 +15,7 @@ pub const NO_BACKUP: u8 = 4;
 pub const RANDOM_SOURCE: u8 = 5;
 
 // The scope, "Records". Flags are bytes, 0 or 1.
-#[derive(Drop)]
+#[derive(Clone, Copy)]
 pub struct IwKey {
     pub integrity: [u8; 16],
     pub encryption: [u8; 32],
@@ -23,14 +24,14 @@ pub struct IwKey {
 }
 
 // A logical processor: its IWKey, and bit 0 of IA32_COPY_STATUS.
-#[derive(Drop)]
+#[derive(Clone, Copy)]
 pub struct Processor {
     pub key: IwKey,
     pub copy_status: u8,
 }
 
 // A place for one IWKey; where it is absent, the IWKey is zero.
-#[derive(Drop)]
+#[derive(Clone, Copy)]
 pub struct Slot {
     pub present: u8,
     pub key: IwKey,
@@ -38,7 +39,7 @@ pub struct Slot {
 
 // What the processors share: IWKeyBackup, the persistent storage (the scope's store), whether the storage is still at work, and the bits of
 // IA32_IWKEYBACKUP_STATUS.
-#[derive(Drop)]
+#[derive(Clone, Copy)]
 pub struct Platform {
     pub backup: Slot,
     pub store: Slot,
@@ -48,7 +49,7 @@ pub struct Platform {
     pub consumed: u8,
 }
 
-#[derive(Drop)]
+#[derive(Clone, Copy)]
 pub struct Machine {
     pub count: u8,
     pub features: u8,

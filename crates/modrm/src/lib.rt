@@ -1,4 +1,6 @@
 // ModRM, SIB and displacement: what stands behind an opcode.
+#![tactic(auto)]
+
 ghost use Rattle.std.specs.Prelude.{◌≡◌, ◌<◌};
 ghost use Rattle.isa.specs.Decode as isa;
 

@@ -1,5 +1,7 @@
 // Buffers that a call only reads may overlap. Each function lends parts of one region, which may have bytes in common, and the call's promise holds of them.
 // A buffer is region[from..to], with the first letter of its name before both. Nothing calls these functions: that they are proved is what they are for.
+#![tactic(auto)]
+
 ghost use Rattle.std.specs.Prelude.{◌≤◌, ◌-◌, length};
 ghost use Rattle.model.specs.Numbers.{part};
 ghost use Rattle.keylocker.specs.Promises.{StepPromise, CounterPromise, CpuidPromise, KeyringLookupPromise, KeyringAddPromise};
@@ -81,7 +83,7 @@ fn cpuid_reads(
     requires mto_in_bounds { mto ≤ length region.now }
     requires cfrom_le_cto { cfrom ≤ cto }
     requires cto_in_bounds { cto ≤ length region.now }
-    ensures { CpuidPromise (part (mto - mfrom) mfrom region.now) (record { cpu = part (cto - cfrom) cfrom region.now; leaf = leaf; subleaf = subleaf }) (record { eax = eax.entry.now; ebx = ebx.old; ecx = ecx.old; edx = edx.old }) (record { eax = eax.exit.now; ebx = ebx.new; ecx = ecx.new; edx = edx.new }) result }
+    ensures { CpuidPromise (part (mto - mfrom) mfrom region.now) (record { cpu = part (cto - cfrom) cfrom region.now; leaf = leaf; subleaf = subleaf }) (record { eax = eax.old; ebx = ebx.old; ecx = ecx.old; edx = edx.old }) (record { eax = eax.new; ebx = ebx.new; ecx = ecx.new; edx = edx.new }) result }
 {
     keylocker::keylocker_cpuid(
         &region[mfrom..mto],

@@ -1,4 +1,6 @@
 // The scope, "Backup, sleep, reset": the backup registers over one processor and the platform, and what the persistent storage does.
+#![tactic(auto)]
+
 ghost use Rattle.std.specs.Prelude.{◌≡◌, cond};
 ghost use Rattle.model.specs.Records as records;
 ghost use Rattle.model.specs.Backup as backup;
@@ -7,7 +9,7 @@ ghost use Rattle.platform.specs.Meaning.{copied_of};
 use model::{IwKey, Platform, Processor, Slot};
 
 // A processor and the platform after a write of a backup register.
-#[derive(Drop)]
+#[derive(Clone, Copy)]
 pub struct Copied {
     pub processor: Processor,
     pub platform: Platform,

@@ -1,4 +1,6 @@
 // POLYVAL of RFC 8452 section 3. An element of its field is two words.
+#![tactic(auto)]
+
 ghost use Rattle.std.specs.Prelude.{◌≡◌, ◌/◌, length};
 ghost use Rattle.bits.specs.Blocks.{blocks};
 ghost use Rattle.aes.specs.Meaning.{bytes_of};
@@ -16,14 +18,14 @@ use aes::Block;
 use aes::word::block_at;
 
 // Coefficient i of x is bit i of lo, coefficient 64 + i bit i of hi.
-#[derive(Drop)]
+#[derive(Clone, Copy)]
 pub(crate) struct Element {
     pub lo: u64,
     pub hi: u64,
 }
 
 // A product that is not yet reduced: w2 and w3 hold the coefficients from x^128 on.
-#[derive(Drop)]
+#[derive(Clone, Copy)]
 pub(crate) struct Wide {
     pub w0: u64,
     pub w1: u64,

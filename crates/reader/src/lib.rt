@@ -1,5 +1,7 @@
 // A reader of instruction strings. The borrow checker covers no function over a struct that holds a reference: `start`, `read` and
 // `decode` are thin and proved by hand, and `decoder` does the work.
+#![tactic(auto)]
+
 ghost use Rattle.std.specs.Prelude.{◌≡◌};
 ghost use Rattle.isa.specs.Decode as isa;
 ghost use Rattle.reader.specs.Read.{behind};
@@ -8,7 +10,7 @@ use decoder::decode_at;
 use isa::Decoded;
 
 // The instruction string and the place up to which it was read.
-#[derive(Drop)]
+#[derive(Clone, Copy)]
 pub struct Reader<'a> {
     pub string: &'a [u8],
     pub at: usize,

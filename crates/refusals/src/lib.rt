@@ -1,4 +1,6 @@
 // The scope, "Turned back": the tests 3 to 14, in its order. Each function gives the number of the first of its tests that holds, or 0.
+#![tactic(auto)]
+
 ghost use Rattle.std.specs.Prelude.{◌≡◌, Bool, true, false, cond, not, ℕ, eqb, leb, ltb, length};
 ghost use Rattle.isa.specs.declared.Decoded as decoded;
 ghost use Rattle.isa.specs.declared.Decoded.TheVariants.{Found};
@@ -24,7 +26,7 @@ const MEMORY_LIMIT: usize = 1048576;
 const RANDOM_SIZE: usize = 48;
 
 // What testing a step gives: the number of its refusal, or 0 and where it loads its handle from (0 if it loads none).
-#[derive(Drop)]
+#[derive(Clone, Copy)]
 pub struct Tested {
     pub number: u8,
     pub linear: u64,

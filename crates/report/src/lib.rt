@@ -1,4 +1,6 @@
 // What a line of the program `scenarios` is put together from.
+#![tactic(auto)]
+
 use cpuid_model::Leaf;
 use layout_write::write_machine;
 use libc::STDOUT_FILENO;

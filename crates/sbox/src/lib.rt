@@ -1,5 +1,7 @@
 // The S-box of FIPS 197, the only table that is stored. A `const` is copied in every function that names it: callers make it a local at
 // their entry and lend it down.
+#![tactic(auto)]
+
 ghost use Rattle.fips197.specs.Sbox.{sbox, TableOf};
 
 pub mod inverse;

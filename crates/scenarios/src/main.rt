@@ -1,4 +1,6 @@
 // Calls of the emulated machine through the proved code, by value: each line of standard input is a call, and is answered by one line.
+#![tactic(auto)]
+
 mod call;
 mod ctr;
 

@@ -1,4 +1,6 @@
 // A step of a machine by value: tested, executed, and told by what it changed of the machine. It picks the step's processor, and copies nothing else of the machine.
+#![tactic(auto)]
+
 ghost use Rattle.std.specs.Prelude.{◌≡◌, Bool, true, [], ℕ, ◌%◌, length};
 ghost use Rattle.instructions.specs.Meaning.{PlacedAt, Within};
 ghost use Rattle.isa.specs.declared.Decoded.TheVariants as decoded;
@@ -23,14 +25,14 @@ use refusals::step_refusal;
 use validity::valid;
 
 // A call is done, or refused with its number.
-#[derive(Drop)]
+#[derive(Clone, Copy)]
 pub enum Answer {
     Done,
     Refused(u8),
 }
 
 // What a step gives: the entry of its processor, which is all that it can change of the machine, and the answer. The CPU record is lent.
-#[derive(Drop)]
+#[derive(Clone, Copy)]
 pub struct Effect {
     pub processor: Processor,
     pub answer: Answer,

@@ -1,5 +1,7 @@
 // The scope, "Turned back" 1: what is asked of a machine record. It is asked at every call, so nothing here stops early: a loop without an
 // exit is compiled to a few wide compares.
+#![tactic(auto)]
+
 ghost use Rattle.std.specs.Prelude.{◌≡◌};
 ghost use Rattle.model.specs.Numbers.{all_zero};
 ghost use Rattle.model.specs.Validity as validity;

@@ -1,4 +1,6 @@
 // The papers' examples through the proved code: each line of standard input is one, and is answered by lines with the bytes that were computed.
+#![tactic(auto)]
+
 mod ciphers;
 mod example;
 mod handles;
