@@ -8,6 +8,8 @@ ghost use Rattle.aes_inv_blocks.specs.Tables.{Products};
 use aes::mix::inv_mix_column;
 
 // The products with k and the bytes that follow up to 2 k: sums of two, as k is a power of two.
+// Inlined, its products would be computed ahead and stored.
+#[inline(never)]
 fn double_products(products: &mut [u32; 256], k: usize, x: u32)
     requires products_len { length products.old ≡ 256 }
     requires k_bound { k ≤ 128 }

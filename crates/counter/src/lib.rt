@@ -86,7 +86,8 @@ fn counter_refusal(
 
 // ---- the buffer, by one IWKey
 
-// ZF after it. An illegal handle is not unwrapped, and no table is made for it.
+// ZF after it. An illegal handle is not unwrapped, and no table is made for it. Inlined, it would make a call's stack larger than the header says.
+#[inline(never)]
 fn used_buffer(
     wide: bool,
     size: KeySize,

@@ -25,6 +25,8 @@ const SBOX: [u8; 256] = [
     0x8c, 0xa1, 0x89, 0x0d, 0xbf, 0xe6, 0x42, 0x68, 0x41, 0x99, 0x2d, 0x0f, 0xb0, 0x54, 0xbb, 0x16,
 ];
 
+// Inlined, it would put a copy of the S-box into each C function that uses it.
+#[inline(never)]
 pub fn sbox_table() -> [u8; 256]
     ensures { TableOf sbox result }
 {
