@@ -1,0 +1,43 @@
+-- Assumes nothing.
+use Prim.Native.Nat.{◌+◌}
+use native.Mathlib.Omega.{arith}
+use borrow.Author.Rules.{rules}
+use Rattle.keyring_validity.proofs.index_at.Statement.{statement}
+use Rattle.keyring_validity.proofs.index_at.Tie as tie
+
+shared-slice-read-result : tie.Need-shared-slice-read-result
+shared-slice-read-result c = search rules
+
+cast-result : tie.Need-overflow-cast-result
+cast-result c = omega (arith, c.shared-slice-known.given c.before.args.at)
+
+add-result : tie.Need-overflow-add-result
+add-result c = search rules
+
+shared-slice-read-result-2 : tie.Need-shared-slice-read-result-2
+shared-slice-read-result-2 c = search rules
+
+cast-result-2 : tie.Need-overflow-cast-result-2
+cast-result-2 c = omega (arith, c.shared-slice-known2.given (c.before.before.args.at + 1))
+
+mul-result : tie.Need-overflow-mul-result
+mul-result c = omega (arith, c.shared-slice-known2.given (c.before.before.args.at + 1), c.before.shared-slice-known.given c.before.before.args.at)
+
+add-result-2 : tie.Need-overflow-add-result-2
+add-result-2 c = omega (arith, c.shared-slice-known2.given (c.before.before.args.at + 1), c.before.shared-slice-known.given c.before.before.args.at)
+
+returns : tie.Need-returns
+returns c = search rules
+
+pub index_at_spec : {M : Type 1} → statement M
+index_at_spec =
+    tie.close
+    (tie.spec
+    shared-slice-read-result
+    cast-result
+    add-result
+    shared-slice-read-result-2
+    cast-result-2
+    mul-result
+    add-result-2
+    returns)
