@@ -64,6 +64,7 @@ fn narrowed(a: u64, size: AddressSize) -> u64
 }
 
 // The address and the segment of a memory place, for an instruction of so many bytes; of the registers only base and index are read.
+#[tactic(auto, using(isa::proofs::Sums::sum_mod, isa::proofs::Widths::narrow), unfolding(isa::specs::Address::effective_address))]
 pub fn effective_address(cpu: &[u8], bytes: u64, place: MemoryPlace) -> Address
     requires { length cpu.now ≡ cpuRecord.cpu_size }
     ensures value { result ≡ isa.effective_address (λ n. cpuRecord.register n cpu.now) (cpuRecord.rip cpu.now) bytes place }
@@ -106,6 +107,7 @@ pub fn some_not_canonical(a: u64, size: KeySize) -> bool
 }
 
 // A byte of the handle at an address is outside a memory of so many bytes.
+#[tactic(auto, using(isa::proofs::Ranges::outside_ends, isa::proofs::Ranges::difference, isa::proofs::Ranges::length_some))]
 pub fn some_outside(memory: u64, a: u64, size: KeySize) -> bool
     ensures { result ≡ some_outside memory a (handle_length size) }
 {

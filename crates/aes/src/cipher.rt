@@ -31,6 +31,7 @@ pub fn add_round_key(s: Block, k: Block) -> Block
     }
 }
 
+#[tactic(auto, using(bits::proofs::Lists::four, crate::proofs::Schedule::word_words), unfolding(fips197::specs::KeyExpansion::round_key))]
 pub fn round_key(w: &[u32; 60], n: usize) -> Block
     requires { n ≤ 14 }
     ensures { bytes_of result ≡ round_key (le_words 4 w.now) n }
@@ -45,6 +46,7 @@ pub fn round_key(w: &[u32; 60], n: usize) -> Block
 }
 
 // SubBytes, then ShiftRows: each byte is looked up at the place from which it moves.
+#[tactic(auto, using(bits::proofs::Lists::four), unfolding(fips197::specs::Cipher::shift_rows, crate::specs::Tables::table_sub_bytes))]
 fn sub_shift(sbox: &[u8; 256], s: Block) -> Block
     ensures { bytes_of result ≡ shift_rows (table_sub_bytes sbox.now (bytes_of s)) }
 {
@@ -56,6 +58,7 @@ fn sub_shift(sbox: &[u8; 256], s: Block) -> Block
     }
 }
 
+#[tactic(auto, unfolding(crate::specs::Tables::table_final_round))]
 pub fn final_round(sbox: &[u8; 256], s: Block, k: Block) -> Block
     ensures { bytes_of result ≡ table_final_round sbox.now (bytes_of s) (bytes_of k) }
 {

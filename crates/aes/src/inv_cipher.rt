@@ -9,6 +9,7 @@ use crate::cipher::add_round_key;
 use crate::word::sub_diagonal;
 
 // InvShiftRows, then InvSubBytes: each byte is looked up at the place from which it moves.
+#[tactic(auto, using(bits::proofs::Lists::four), unfolding(crate::specs::Tables::table_sub_bytes, fips197::specs::InvCipher::inv_shift_rows))]
 fn inv_shift_sub(inverse: &[u8; 256], s: Block) -> Block
     ensures { bytes_of result ≡ table_sub_bytes inverse.now (inv_shift_rows (bytes_of s)) }
 {
@@ -20,6 +21,7 @@ fn inv_shift_sub(inverse: &[u8; 256], s: Block) -> Block
     }
 }
 
+#[tactic(auto, unfolding(crate::specs::Tables::table_inv_final_round))]
 pub fn inv_final_round(inverse: &[u8; 256], s: Block, k: Block) -> Block
     ensures { bytes_of result ≡ table_inv_final_round inverse.now (bytes_of s) (bytes_of k) }
 {

@@ -14,12 +14,14 @@ fn xtime(x: u32) -> u32
 }
 
 // The rows of the matrix are one row, turned: so are the terms of the sum.
+#[tactic(auto, using(crate::proofs::Staggered::summed))]
 pub fn stagger(a: u32, b: u32, c: u32, d: u32) -> u32
     ensures { le_bytes 4 result ≡ staggered (le_bytes 4 a) (le_bytes 4 b) (le_bytes 4 c) (le_bytes 4 d) }
 {
     a ^ rot_word(b) ^ rot_word(rot_word(c)) ^ rot_word(rot_word(rot_word(d)))
 }
 
+#[tactic(auto, using(crate::proofs::Staggered::inv_mixes))]
 pub fn inv_mix_column(x: u32) -> u32
     ensures { le_bytes 4 result ≡ mixed inv_mix_row (le_bytes 4 x) }
 {

@@ -22,6 +22,7 @@ fn pack(a: u8, b: u8, c: u8, d: u8) -> u32
 }
 
 // RotWord; with byte 0 lowest it turns right.
+#[tactic(auto, using(crate::proofs::Words::turned))]
 pub fn rot_word(x: u32) -> u32
     ensures { le_bytes 4 result ≡ rot_word (le_bytes 4 x) }
 {
@@ -96,6 +97,7 @@ pub fn put_word(s: &mut [u8], at: usize, x: u32)
 }
 
 // The block that stands at a place of a slice.
+#[tactic(auto, using(bits::proofs::Lists::four, bits::proofs::Lists::part_sixteen))]
 pub fn block_at(s: &[u8], at: usize) -> Block
     requires { at + 16 ≤ length s.now }
     ensures { bytes_of result ≡ take 16 (drop at s.now) }

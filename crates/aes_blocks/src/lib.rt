@@ -18,6 +18,7 @@ use aes::word::{block_at, put_block};
 use fips197::KeySize;
 
 // ShiftRows, then the columns by the table, which has SubBytes and MixColumns in it.
+#[tactic(auto, using(bits::proofs::Lists::four), unfolding(crate::specs::TableCipher::table_columns, crate::specs::TableCipher::table_column, aes::specs::Columns::staggered, fips197::specs::Cipher::shift_rows))]
 fn sub_shift_mix(mixed: &[u32; 256], s: Block) -> Block
     ensures { bytes_of result ≡ table_columns mixed.now (shift_rows (bytes_of s)) }
 {
@@ -29,12 +30,14 @@ fn sub_shift_mix(mixed: &[u32; 256], s: Block) -> Block
     }
 }
 
+#[tactic(auto, unfolding(crate::specs::TableCipher::table_round))]
 fn table_round(mixed: &[u32; 256], s: Block, k: Block) -> Block
     ensures { bytes_of result ≡ table_round mixed.now (bytes_of s) (bytes_of k) }
 {
     add_round_key(sub_shift_mix(mixed, s), k)
 }
 
+#[tactic(auto, using(crate::proofs::TableCipher::rounds_more, crate::proofs::TableCipher::cipher_ends), unfolding(crate::specs::TableCipher::table_rounds))]
 fn table_cipher(mixed: &[u32; 256], sbox: &[u8; 256], w: &[u32; 60], n: usize, b: Block) -> Block
     requires { (1 ≤ n) × (n ≤ 14) }
     ensures { bytes_of result ≡ table_cipher mixed.now sbox.now (le_words 4 w.now) n (bytes_of b) }
@@ -49,7 +52,7 @@ fn table_cipher(mixed: &[u32; 256], sbox: &[u8; 256], w: &[u32; 60], n: usize, b
     final_round(sbox, s, round_key(w, n))
 }
 
-// One block, by lent tables, whatever they hold; with the right ones this is Cipher (`cipher-by` in proofs/TableCipher.antt).
+// One block, by lent tables, whatever they hold; with the right ones this is Cipher (`cipher_by` in proofs/TableCipher.antt).
 pub fn encrypt_block_with(
     mixed: &[u32; 256],
     sbox: &[u8; 256],

@@ -11,6 +11,7 @@ use aes::mix::stagger;
 
 // ---- a column with a byte in row 0 alone, mixed
 
+#[tactic(auto, unfolding(fips197::specs::Field::xtime))]
 fn xtime(s: u8) -> u8
     ensures { result ≡ fips.xtime s }
 {
@@ -45,6 +46,7 @@ fn doubled(sbox: &[u8; 256], at: usize) -> [u8; 64]
 }
 
 // The lower and the upper two bytes of 64 entries.
+#[tactic(auto, using(bits::proofs::Lists::filled), unfolding(bits::specs::Polynomials::multiply_bits))]
 fn halves(sbox: &[u8; 256], at: usize, low: &mut [u16; 64], high: &mut [u16; 64])
     requires at_bound { at ≤ 192 }
     requires low_len { (length low.old ≡ 64) × (length high.old ≡ 64) }
@@ -108,6 +110,7 @@ fn entry(table: &[u32; 256], i: u32) -> u32
 }
 
 // A column of a round without its key, whatever the table holds.
+#[tactic(auto, using(crate::proofs::Columns::terms, crate::proofs::Columns::entry_at), unfolding(crate::specs::TableCipher::table_column))]
 pub fn table_column(table: &[u32; 256], a: u32, b: u32, c: u32, d: u32) -> u32
     ensures { le_bytes 4 result ≡ table_column table.now (diagonal (λ x. x) a b c d) }
 {

@@ -24,6 +24,7 @@ use fips197::KeySize;
 use sbox::inverse::inverse_table;
 
 // InvShiftRows, InvSubBytes and InvMixColumns at once.
+#[tactic(auto, using(bits::proofs::Lists::four, aes_blocks::proofs::Columns::diagonal_by), unfolding(aes::specs::Columns::mixed, fips197::specs::InvCipher::inv_mix_columns, fips197::specs::Cipher::mix_by, fips197::specs::InvCipher::inv_shift_rows, fips197::specs::InvCipher::inv_sub_bytes))]
 fn inv_shift_sub_mix(mixed: &[u32; 256], s: Block) -> Block
     ensures { InvMixedTable mixed.now → bytes_of result ≡ inv_mix_columns (inv_sub_bytes (inv_shift_rows (bytes_of s))) }
 {

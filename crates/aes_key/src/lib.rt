@@ -23,6 +23,7 @@ fn key_words(size: KeySize) -> usize
 }
 
 // x^j as a byte, by shifts: nothing is stored beside the S-boxes.
+#[tactic(auto, using(crate::proofs::Expansion::power_low, crate::proofs::Expansion::power_high))]
 fn power_of_x(j: usize) -> u32
     requires { j < 10 }
     ensures { result ≡ power j }
@@ -33,6 +34,7 @@ fn power_of_x(j: usize) -> u32
     27u32 << (j - 8)
 }
 
+#[tactic(auto, using(aes::proofs::Words::through_table), unfolding(fips197::specs::KeyExpansion::sub_word))]
 fn sub_word(sbox: &[u8; 256], x: u32) -> u32
     requires { SboxTable sbox.now }
     ensures { le_bytes 4 result ≡ sub_word (le_bytes 4 x) }
@@ -60,6 +62,7 @@ fn remainder(size: KeySize, i: usize) -> usize
 }
 
 // What is added to word i - nk to make word i; x is word i - 1.
+#[tactic(auto, using(crate::proofs::Expansion::with_constant, crate::proofs::Expansion::substituted, crate::proofs::Expansion::copied))]
 fn transformed(sbox: &[u8; 256], size: KeySize, i: usize, x: u32) -> u32
     requires sbox_table { SboxTable sbox.now }
     requires size_bound { (nk size ≤ i) × (i < 11 * nk size) }
@@ -75,6 +78,7 @@ fn transformed(sbox: &[u8; 256], size: KeySize, i: usize, x: u32) -> u32
     x
 }
 
+#[tactic(auto, using(crate::proofs::Expansion::next_words))]
 fn next_word(sbox: &[u8; 256], w: &[u32; 60], size: KeySize, i: usize) -> u32
     requires sbox_table { SboxTable sbox.now }
     requires size_bound { (nk size ≤ i) × (i < 11 * nk size) × (i < 60) }
@@ -103,6 +107,7 @@ fn key_front(key: Key) -> [u32; 60]
 }
 
 // The key schedule, by a lent S-box; the words that AES-128 does not need are zero.
+#[tactic(auto, using(crate::proofs::Expansion::expands, crate::proofs::Expansion::key_words_few, crate::proofs::Expansion::stored))]
 pub fn expand_with(sbox: &[u8; 256], size: KeySize, key: Key) -> [u32; 60]
     requires { SboxTable sbox.now }
     ensures { le_words 4 result ≡ stored_schedule size (key_bytes size key) }

@@ -18,6 +18,7 @@ use aes::cipher::{add_round_key, final_round, round_key, rounds};
 use aes::word::{block_at, put_block};
 use fips197::KeySize;
 
+#[tactic(auto, using(bits::proofs::Lists::four), unfolding(aes_blocks::specs::TableCipher::table_columns, aes_blocks::specs::TableCipher::table_column, aes::specs::Columns::staggered, fips197::specs::Cipher::shift_rows))]
 fn sub_shift_mix(tables: &[u32; 1024], s: Block) -> Block
     ensures { (t : List ℕ) → Turned t tables.now → bytes_of result ≡ table_columns t (shift_rows (bytes_of s)) }
 {
@@ -29,12 +30,14 @@ fn sub_shift_mix(tables: &[u32; 1024], s: Block) -> Block
     }
 }
 
+#[tactic(auto, unfolding(aes_blocks::specs::TableCipher::table_round))]
 fn tables_round(tables: &[u32; 1024], s: Block, k: Block) -> Block
     ensures { (t : List ℕ) → Turned t tables.now → bytes_of result ≡ table_round t (bytes_of s) (bytes_of k) }
 {
     add_round_key(sub_shift_mix(tables, s), k)
 }
 
+#[tactic(auto, using(aes_blocks::proofs::TableCipher::rounds_more, aes_blocks::proofs::TableCipher::cipher_ends), unfolding(aes_blocks::specs::TableCipher::table_rounds))]
 fn cipher_one(tables: &[u32; 1024], sbox: &[u8; 256], w: &[u32; 60], n: usize, b: Block) -> Block
     requires { (1 ≤ n) × (n ≤ 14) }
     ensures { (t : List ℕ) → Turned t tables.now → bytes_of result ≡ table_cipher t sbox.now (le_words 4 w.now) n (bytes_of b) }
@@ -57,6 +60,7 @@ pub struct Pair {
 }
 
 // Two blocks in one loop: the look-ups of one do not wait for those of the other.
+#[tactic(auto, using(aes_blocks::proofs::TableCipher::rounds_more, aes_blocks::proofs::TableCipher::cipher_ends), unfolding(aes_blocks::specs::TableCipher::table_rounds))]
 fn cipher_two(
     tables: &[u32; 1024],
     sbox: &[u8; 256],

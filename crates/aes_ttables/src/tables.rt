@@ -53,6 +53,7 @@ fn entry(tables: &[u32; 1024], i: u32) -> u32
 }
 
 // A column of a round without its key, whatever table the four were made from.
+#[tactic(auto, using(crate::proofs::Columns::turned_column))]
 pub(crate) fn column(tables: &[u32; 1024], a: u32, b: u32, c: u32, d: u32) -> u32
     ensures { (t : List ℕ) → Turned t tables.now → le_bytes 4 result ≡ table_column t (diagonal (λ x. x) a b c d) }
 {

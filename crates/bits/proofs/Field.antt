@@ -80,7 +80,7 @@ module _ (F : Field) where
   abbrev k : ℕ
   k = F.degree
 
-  -- every element is below N
+  -- every element is below `order`
   abbrev order : ℕ
   order = 2 ^ F.degree
 

@@ -45,6 +45,7 @@ pub fn bit(i: u8, x: u8) -> bool
 
 // ---- numbers of eight bytes
 
+#[tactic(auto, using(crate::proofs::Words::quad_value))]
 fn quad_at(s: &[u8], at: usize) -> u64
     requires { at + 8 ≤ length s.now }
     ensures { result ≡ le_value (part 8 at s.now) }

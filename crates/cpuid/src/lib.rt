@@ -49,6 +49,7 @@ fn leaf_19(features: u8, control: u8) -> Leaf
     }
 }
 
+#[tactic(auto, using(cpuid_model::proofs::Choices::cpuid_7, cpuid_model::proofs::Choices::cpuid_19, cpuid_model::proofs::Choices::cpuid_other))]
 pub fn registers(features: u8, control: u8, leaf: u32, subleaf: u32) -> Leaf
     ensures { result ≡ leaves.cpuid features control leaf subleaf }
 {

@@ -44,6 +44,7 @@ fn size_of(n: u8) -> KeySize
     KeySize::Aes256
 }
 
+#[tactic(auto, using(bits::proofs::Choice::cond_on, bits::proofs::Choice::cond_off), unfolding(isa::specs::Decode::instruction_of))]
 fn instruction_of(op: u8, m: u8, reg: u8, rm: Operand) -> Instruction
     ensures { result ≡ isa.instruction_of op m reg rm }
 {
@@ -212,6 +213,7 @@ fn lock_from(s: &[u8], step: Step) -> Decoded
 }
 
 // The instruction at a position of a string.
+#[tactic(auto, unfolding(isa::specs::Decode::decode_at))]
 pub fn decode_at(s: &[u8], at: usize) -> Decoded
     ensures { result ≡ isa.decode_at s.now at }
 {

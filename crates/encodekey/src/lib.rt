@@ -19,6 +19,7 @@ use keywrap::siv::wrap;
 use model::IwKey;
 
 // Key type in bits 27:24, restrictions in bits 2:0.
+#[tactic(auto, using(crate::proofs::Handles::aad_word))]
 fn aad_of(size: KeySize, source: u64) -> Block
     ensures { bytes_of result ≡ aad (instructions.type_of size) source }
 {

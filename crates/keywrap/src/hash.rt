@@ -9,6 +9,7 @@ use fips197::KeySize;
 use polyval::polyval;
 
 // The bit lengths of AAD and key.
+#[tactic(auto, unfolding(handle::specs::Wrap::length_block))]
 fn length_block(size: KeySize, aad: Block, key: Key) -> Block
     ensures { bytes_of result ≡ handle.length_block (bytes_of aad) (key_bytes size key) }
 {

@@ -57,6 +57,7 @@ fn bytes_32(s: &[u8], at: usize) -> [u8; 32]
     a
 }
 
+#[tactic(auto, using(crate::proofs::Read::key_read))]
 fn key_at(s: &[u8], at: usize) -> IwKey
     requires { at + layout.iw_key_size ≤ length s.now }
     ensures { result ≡ layout.key_at (drop at s.now) }
@@ -129,6 +130,7 @@ fn slot_at(s: &[u8], at: usize) -> Slot
 }
 
 // "backup, then store, ..; pending, valid, error, consumed"
+#[tactic(auto, using(crate::proofs::Read::platform_read))]
 fn platform_at(s: &[u8], at: usize) -> Platform
     requires { at + layout.platform_size ≤ length s.now }
     ensures { result ≡ layout.platform_at (drop at s.now) }
@@ -146,6 +148,7 @@ fn platform_at(s: &[u8], at: usize) -> Platform
 }
 
 // "count; features; 16 entries ..", then the platform
+#[tactic(auto, using(crate::proofs::Read::machine_read))]
 pub fn read_machine(s: &[u8]) -> Machine
     requires { length s.now ≡ layout.machine_size }
     ensures { result ≡ layout.machine_at s.now }

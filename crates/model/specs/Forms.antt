@@ -38,12 +38,12 @@ form_of (instruction.WideUse u) = some (wide u)
 form_of (instruction.LoadIwKey l) = none
 form_of (instruction.EncodeKey e) = none
 
--- a register operand; LOADIWKEY and ENCODEKEY have no other (isa, `decoded-fits`)
+-- a register operand; LOADIWKEY and ENCODEKEY have no other (isa, `decoded_fits`)
 abbrev pub register_of : Operand → ℕ
 register_of (operand.Register n) = n
 register_of (operand.Memory p) = 0
 
--- the scope, "Instruction strings": where a handle is loaded from, for an instruction of so many bytes; no use has a register there (isa, `decoded-fits`)
+-- the scope, "Instruction strings": where a handle is loaded from, for an instruction of so many bytes; no use has a register there (isa, `decoded_fits`)
 abbrev pub handle_address : List ℕ → ℕ → Operand → Address
 handle_address cpu bytes (operand.Register n) = record { linear = 0; segment = Data }
 handle_address cpu bytes (operand.Memory p) = effective_address (λ n. register n cpu) (rip cpu) bytes p

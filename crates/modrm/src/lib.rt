@@ -64,6 +64,7 @@ fn signed_32(w: u64) -> u64
     w + 0xFFFF_FFFF_0000_0000
 }
 
+#[tactic(auto, using(bits::proofs::Choice::cond_on, bits::proofs::Choice::cond_off), unfolding(isa::specs::Decode::displacement32))]
 fn displacement_32(s: &[u8], at: usize) -> Displacement
     ensures { result ≡ isa.displacement32 s.now at }
 {
@@ -79,6 +80,7 @@ fn displacement_32(s: &[u8], at: usize) -> Displacement
     Displacement::End
 }
 
+#[tactic(auto, using(bits::proofs::Choice::cond_on, bits::proofs::Choice::cond_off), unfolding(isa::specs::Decode::displacement_at))]
 fn displacement_at(s: &[u8], at: usize, mode: u8) -> Displacement
     ensures { result ≡ isa.displacement_at s.now at mode }
 {
@@ -117,6 +119,7 @@ fn placed(
     }
 }
 
+#[tactic(auto, using(bits::proofs::Choice::cond_on, bits::proofs::Choice::cond_off), unfolding(isa::specs::Decode::index_of))]
 fn index_of(p: Prefixes, sib: u8) -> Index
     ensures { result ≡ isa.index_of p sib }
 {
@@ -127,6 +130,7 @@ fn index_of(p: Prefixes, sib: u8) -> Index
     Index::Register(i)
 }
 
+#[tactic(auto, using(bits::proofs::Choice::cond_on, bits::proofs::Choice::cond_off), unfolding(isa::specs::Decode::sib_of))]
 fn sib_of(s: &[u8], at: usize, p: Prefixes, mode: u8, reg: u8, sib: u8) -> Operands
     ensures { result ≡ isa.sib_of s.now at p mode reg sib }
 {
@@ -151,6 +155,7 @@ fn sib_from(s: &[u8], p: Prefixes, mode: u8, reg: u8, step: Step) -> Operands
 }
 
 // The ModRM byte before a position, and what it has behind it.
+#[tactic(auto, using(bits::proofs::Choice::cond_on, bits::proofs::Choice::cond_off), unfolding(isa::specs::Decode::modrm_of))]
 pub fn modrm_of(s: &[u8], at: usize, p: Prefixes, m: u8) -> Operands
     ensures { result ≡ isa.modrm_of s.now at p m }
 {

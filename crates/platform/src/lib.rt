@@ -26,6 +26,7 @@ fn with_copy_status(status: u8, e: Processor) -> Processor
 }
 
 // "Write 0xD91, bit 0 set": IWKeyBackup is not replaced while the storage is still at work on it.
+#[tactic(auto, using(bits::proofs::Choice::cond_on, bits::proofs::Choice::cond_off, crate::proofs::Copies::with_processor), unfolding(model::specs::Backup::copy_out))]
 fn copy_out(e: Processor, f: Platform) -> Copied
     ensures { copied_of result ≡ backup.copy_out e f }
 {
@@ -50,6 +51,7 @@ fn copy_out(e: Processor, f: Platform) -> Copied
 }
 
 // "Write 0xD92, bit 0 set: fails (copy status 0) if backup is absent"
+#[tactic(auto, using(bits::proofs::Choice::cond_on, bits::proofs::Choice::cond_off, crate::proofs::Copies::with_processor), unfolding(model::specs::Backup::copy_in))]
 fn copy_in(e: Processor, f: Platform) -> Copied
     ensures { copied_of result ≡ backup.copy_in e f }
 {
@@ -111,6 +113,7 @@ fn absent() -> Slot
 }
 
 // "settle (0 good, 1 bad) acts only when pending."
+#[tactic(auto, using(bits::proofs::Choice::cond_on, bits::proofs::Choice::cond_off), unfolding(model::specs::Backup::settled))]
 pub fn settle(code: u8, f: Platform) -> Platform
     ensures { result ≡ backup.settled code f }
 {
@@ -139,6 +142,7 @@ pub fn settle(code: u8, f: Platform) -> Platform
 }
 
 // Change request (v): the platform has taken IWKeyBackup, and its storage is still at work on it.
+#[tactic(auto, using(bits::proofs::Choice::cond_on, bits::proofs::Choice::cond_off), unfolding(model::specs::Backup::with_taken))]
 pub fn note_taken(f: Platform) -> Platform
     ensures { result ≡ backup.with_taken f }
 {
@@ -173,6 +177,7 @@ fn one_if(b: bool) -> u8
 }
 
 // "Else backup := store, error 0, valid 1 exactly if present. Pending 0."
+#[tactic(auto, unfolding(model::specs::Backup::woken))]
 pub fn wake(code: u8, f: Platform) -> Platform
     ensures { result ≡ backup.woken code f }
 {

@@ -9,6 +9,7 @@ use crate::table::entry;
 use crate::{Element, Wide};
 
 // The product of the tables' element and the low byte of x.
+#[tactic(auto, using(crate::proofs::Windows::by_byte))]
 fn times_byte(low: &[u64; 32], high: &[u64; 32], x: u64) -> Element
     requires { ByteTables low.now high.now }
     ensures { num result ≡ rfc.multiply (first low.now) (x % 256) }
@@ -17,6 +18,7 @@ fn times_byte(low: &[u64; 32], high: &[u64; 32], x: u64) -> Element
 }
 
 // w * x^8 + n * x^64 + m
+#[tactic(auto, using(crate::proofs::Reduction::shift_added), unfolding(crate::specs::Meaning::value))]
 fn shift_add(w: Wide, n: Element, m: Element) -> Wide
     requires { w.w3 * 256 < 2 ^ 64 }
     ensures { (value result ≡ rfc.add (times_x_to 8 (value w)) (rfc.add (times_x_to 64 (num n)) (num m))) × (result.w3 ≡ w.w3 * 256 + w.w2 / 2 ^ 56) }
@@ -30,6 +32,7 @@ fn shift_add(w: Wide, n: Element, m: Element) -> Wide
 }
 
 // The product of the tables' element and a.
+#[tactic(auto, using(crate::proofs::Windows::down, crate::proofs::Windows::no_bits, crate::proofs::Windows::horner, crate::proofs::Windows::fourth_word, crate::proofs::Windows::fourth_fits), unfolding(crate::specs::Meaning::value))]
 fn product(low: &[u64; 32], high: &[u64; 32], a: Element) -> Wide
     requires { ByteTables low.now high.now }
     ensures { value result ≡ rfc.multiply (first low.now) (num a) }
@@ -52,6 +55,7 @@ fn product(low: &[u64; 32], high: &[u64; 32], a: Element) -> Wide
 }
 
 // (w2 * x^128 + e) * x^-64, where x^-64 = x^64 + x^63 + x^62 + x^57.
+#[tactic(auto, using(crate::proofs::Reduction::reduced))]
 fn reduce(w2: u64, e: Element) -> Element
     ensures { times_x_to 64 (num result) ≡ rfc.add (times_x_to 128 w2) (num e) }
 {
@@ -62,6 +66,7 @@ fn reduce(w2: u64, e: Element) -> Element
     }
 }
 
+#[tactic(auto, using(crate::proofs::Halves::halves_lt, crate::proofs::Windows::twice_reduced), unfolding(crate::specs::Meaning::value))]
 pub(crate) fn dot(low: &[u64; 32], high: &[u64; 32], a: Element) -> Element
     requires { ByteTables low.now high.now }
     ensures { num result ≡ rfc.dot (num a) (first low.now) }

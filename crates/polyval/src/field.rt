@@ -8,6 +8,7 @@ ghost use Rattle.polyval.specs.Meaning.{num};
 use crate::Element;
 use aes::Block;
 
+#[tactic(auto, using(crate::proofs::Halves::xor_halves))]
 pub(crate) fn add(a: Element, b: Element) -> Element
     ensures { num result ≡ rfc.add (num a) (num b) }
 {
@@ -18,6 +19,7 @@ pub(crate) fn add(a: Element, b: Element) -> Element
 }
 
 // An element times x.
+#[tactic(auto, using(crate::proofs::Packing::times_x_lem))]
 pub(crate) fn times_x(e: Element) -> Element
     ensures { num result ≡ rfc.times_x (num e) }
 {
@@ -28,6 +30,7 @@ pub(crate) fn times_x(e: Element) -> Element
     }
 }
 
+#[tactic(auto, unfolding(bits::specs::Polynomials::times_power))]
 pub(crate) fn times_x4(e: Element) -> Element
     ensures { num result ≡ rfc.times_x_to 4 (num e) }
 {
@@ -50,6 +53,7 @@ pub(crate) fn from_block(b: Block) -> Element
     }
 }
 
+#[tactic(auto, using(crate::proofs::Packing::unpacked))]
 pub(crate) fn to_block(e: Element) -> Block
     ensures { bytes_of result ≡ le_bytes 16 (num e) }
 {

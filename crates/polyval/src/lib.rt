@@ -34,6 +34,7 @@ pub(crate) struct Wide {
 }
 
 // POLYVAL(H, X_1, .., X_n): the X are the whole blocks of the bytes.
+#[tactic(auto, using(crate::proofs::Folding::block_more), unfolding(rfc8452::specs::Polyval::polyval))]
 pub fn polyval(h: Block, bytes: &[u8]) -> Block
     ensures { bytes_of result ≡ rfc.polyval (bytes_of h) (blocks (length bytes.now / 16) bytes.now) }
 {

@@ -25,6 +25,7 @@ fn put_entry(multiples: &mut [u64; 32], u: usize, e: Element)
 }
 
 // The table of h.
+#[tactic(auto, using(rfc8452::proofs::Field::gf128, crate::proofs::Halves::halves_lt, crate::proofs::Windows::at, crate::proofs::Windows::Below, crate::proofs::Windows::put, crate::proofs::Windows::one_more, crate::proofs::Windows::first_two, crate::proofs::Windows::even, crate::proofs::Windows::odd))]
 pub(crate) fn multiples(h: Element) -> [u64; 32]
     ensures { (first result ≡ num h) × MultiplesTable result }
 {

@@ -157,6 +157,7 @@ fn fault(holds: bool) -> Tested
 }
 
 // 12 to 14 for an instruction.
+#[tactic(auto, using(crate::proofs::Parts::handle_tests, crate::proofs::Parts::operand_tests, crate::proofs::Calls::operand_within))]
 fn operand_refusal(features: u8, cpu: &[u8], memory: usize, what: Instruction, bytes: u64) -> Tested
     requires { length cpu.now ≡ cpu_size }
     ensures { (count processor random : ℕ) (lock : Bool) → result ≡ tested (within 12 14 (record { count = count; features = features }) (record { processor = processor; cpu = cpu.now; memory = memory; random = random; decoded = Found what lock bytes })) (loaded_from cpu.now bytes (form_of what)) }
@@ -181,6 +182,7 @@ fn operand_refusal(features: u8, cpu: &[u8], memory: usize, what: Instruction, b
 }
 
 // 10 to 14 for an instruction of so many bytes.
+#[tactic(auto, using(crate::proofs::Ways::told_opcode, crate::proofs::Ways::instruction_10, crate::proofs::Ways::instruction_11, crate::proofs::Ways::instruction_rest, crate::proofs::Calls::operand_within, crate::proofs::Calls::instruction_within))]
 fn instruction_refusal(
     features: u8,
     cpu: &[u8],
@@ -272,6 +274,7 @@ fn string_refusal(d: Decoded) -> u8
 }
 
 // 3 to 14 for what a string holds, and where a use loads its handle from: guest memory and random data are told by their lengths.
+#[tactic(auto, using(crate::proofs::Ways::stopped, crate::proofs::Calls::decoded_refusal, crate::proofs::Calls::step_3, crate::proofs::Calls::step_4, crate::proofs::Calls::step_record, crate::proofs::Calls::step_decoded, crate::proofs::Calls::step_string))]
 pub fn step_refusal(
     count: u8,
     features: u8,

@@ -54,6 +54,7 @@ fn valid_processor(below: bool, e: Processor) -> bool
     zero_key(k) & (e.copy_status == 0)
 }
 
+#[tactic(auto, using(crate::proofs::Loops::valid_next, crate::proofs::Loops::valid_last))]
 fn valid_processors(count: usize, l: [Processor; 16]) -> bool
     ensures { result ≡ validity.valid_processors count 0 l }
 {
@@ -90,6 +91,7 @@ fn valid_platform(f: Platform) -> bool
         & (f.consumed < 2)
 }
 
+#[tactic(auto, unfolding(model::specs::Validity::valid))]
 pub fn valid(m: Machine) -> bool
     ensures { result ≡ validity.valid m }
 {

@@ -1,0 +1,23 @@
+use mathlib.Core.Path.{refl}
+use native.Mathlib.Omega.{arith}
+use Rattle.bits.specs.Words.{le_words}
+use Rattle.aes.specs.Meaning.{bytes_of}
+use Rattle.aes.proofs.Rounds.{inv_rounds_more, inv_cipher_ends}
+use Rattle.aes.proofs.Tables.{block_bytes}
+use Rattle.aes_inv_blocks.proofs.Equivalent.{equivalent_round}
+use Rattle.aes_inv_blocks.proofs.table_inv_cipher.Goals as goal
+
+pub loop-i-preserved : goal.loop-i-preserved
+loop-i-preserved c =
+    let s = bytes_of c.loop-i.s in (
+      omega arith,
+      λ rule.
+          inv_rounds_more (le_words 4 c.args.w.now) c.loop-i.i s (omega arith) (c.loop-i.invariant.1 rule) refl
+          (equivalent_round c.args.w.now c.args.dw.now c.args.n c.loop-i.i c.loop-i.invariant.0 c.requires.inv_mixed s c.round_key-in-loop-i.ensures
+          (c.table_inv_round-x.ensures rule)),
+    )
+
+pub returns : goal.returns
+returns c mix_rule rule =
+    inv_cipher_ends _ c.args.inverse.now rule c.args.n c.loop-i.i _ _ (block_bytes c.loop-i.s) (omega arith) c.round_key.ensures
+    c.add_round_key-s.ensures (c.loop-i.invariant.1 mix_rule) c.round_key-2.ensures c.inv_final_round.ensures
