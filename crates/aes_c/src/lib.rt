@@ -38,6 +38,7 @@ pub fn key_expansion(size: KeySize, key: Key) -> [u32; 60]
     expand_with(&sbox, size, key)
 }
 
+#[tactic(auto, using(aes_blocks::proofs::Columns::boxed, aes_blocks::proofs::TableCipher::block_by))]
 pub fn encrypt_block(size: KeySize, w: &[u32; 60], b: Block) -> Block
     ensures { bytes_of result ≡ cipher (schedule size w.now) (nr size) (bytes_of b) }
 {
@@ -48,6 +49,7 @@ pub fn encrypt_block(size: KeySize, w: &[u32; 60], b: Block) -> Block
 }
 
 // Every whole block of the bytes; what is left at the end stays.
+#[tactic(auto, using(aes_blocks::proofs::Columns::boxed, aes_blocks::proofs::TableCipher::blocks_by))]
 pub fn encrypt_blocks(size: KeySize, w: &[u32; 60], bytes: &mut [u8])
     ensures { bytes.new ≡ map_blocks (cipher (schedule size w.now) (nr size)) (length bytes.old / 16) bytes.old }
 {
@@ -74,6 +76,7 @@ pub fn decrypt_blocks(size: KeySize, w: &[u32; 60], bytes: &mut [u8])
 }
 
 // Counter mode from the counter block c on.
+#[tactic(auto, using(aes_blocks::proofs::Columns::boxed, ctr::proofs::Keyed::masked_by))]
 pub fn ctr_mask(wide: bool, size: KeySize, key: Key, c: Block, bytes: &mut [u8])
     ensures { bytes.new ≡ ctr (encrypt (nk size) (key_bytes size key)) (bytes_of c) bytes.old }
 {

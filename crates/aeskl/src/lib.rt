@@ -81,6 +81,7 @@ pub fn unwrapped_by(
 
 // ---- blocks, by lent tables; decryption makes its own in the place of the cipher's, which nothing needs after the unwrapping
 
+#[tactic(auto, using(aes::proofs::Schedule::schedule_stored, aes_blocks::proofs::TableCipher::block_by), unfolding(fips197::specs::Aes::encrypt, fips197::specs::Aes::decrypt))]
 fn cipher_block(
     mixed: &mut [u32; 256],
     sbox: &[u8; 256],
@@ -100,6 +101,7 @@ fn cipher_block(
     }
 }
 
+#[tactic(auto, using(aes::proofs::Schedule::schedule_stored, aes_blocks::proofs::TableCipher::blocks_by), unfolding(fips197::specs::Aes::encrypt, fips197::specs::Aes::decrypt))]
 fn cipher_blocks(
     mixed: &mut [u32; 256],
     sbox: &[u8; 256],

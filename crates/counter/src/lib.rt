@@ -60,6 +60,7 @@ fn single_refusal(features: u8, control: u8) -> u8
 }
 
 // 3, 4, 5, 18, 10 and 11.
+#[tactic(auto, using(crate::proofs::Refusals::refused_3, crate::proofs::Refusals::refused_record, crate::proofs::Refusals::refused_18, crate::proofs::Refusals::refused_single))]
 fn counter_refusal(
     count: u8,
     features: u8,
@@ -137,6 +138,7 @@ fn perform(wide: bool, k: IwKey, cpu: &mut [u8], handle: &[u8], counter: &[u8], 
 
 // ---- the call
 
+#[tactic(auto, using(model::proofs::Refusals::record_length, model::proofs::Refusals::handle_sized, model::proofs::Refusals::counter_block, step::proofs::Ways::found_valid, step::proofs::Ways::found_not, crate::proofs::Calls::invalid_left, crate::proofs::Calls::stopped_left, crate::proofs::Calls::done_left))]
 pub fn count(
     m: Machine,
     processor: u8,

@@ -48,6 +48,7 @@ pub(crate) fn block_of(c: Counter) -> Block
     }
 }
 
+#[tactic(auto, using(crate::proofs::Halves::low_counts, crate::proofs::Halves::high_counts))]
 pub(crate) fn next(c: Counter) -> Counter
     ensures { counter_bytes result ≡ counter_at (counter_bytes c) 1 }
 {

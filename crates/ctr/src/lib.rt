@@ -52,6 +52,7 @@ fn put_counters(s: &mut [u8], c: Block) -> Block
 
 // ---- whole blocks singly; the counter block behind them is given back
 
+#[tactic(auto, using(aes::proofs::Tables::block_bytes, crate::proofs::Masking::first_counter, crate::proofs::Masking::counted, crate::proofs::Masking::stored_length, crate::proofs::Masking::masked_none, crate::proofs::Masking::masked_stored))]
 fn mask_blocks(
     tables: &[u32; 1024],
     sbox: &[u8; 256],
@@ -82,6 +83,7 @@ fn mask_blocks(
 // ---- groups of eight
 
 // The counter blocks are enciphered together, as a wide form does it.
+#[tactic(auto, using(crate::proofs::Groups::group_masked))]
 fn mask_group(
     tables: &[u32; 1024],
     sbox: &[u8; 256],

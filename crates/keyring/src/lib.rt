@@ -55,6 +55,7 @@ pub enum Added {
 // ---- the search
 
 // The first record of a chain that has the label: the first differing byte sends the search to the next record.
+#[tactic(auto, using(keyring_model::proofs::Walks::behind_0, keyring_model::proofs::Facts::Fields, keyring_model::proofs::Facts::fields, keyring_model::proofs::Facts::valid_fields, crate::proofs::Turns::no_more, crate::proofs::Turns::turned, crate::proofs::Turns::matched))]
 fn find(keyring: &[u8], n: usize, head: usize, label: &[u8]) -> Found
     requires { (validity.valid keyring.now ≡ true) × (n ≡ records.records keyring.now) × (head < n) × (length label.now ≡ 12) }
     ensures { (found_of result ≡ lookups.first_with keyring.now label.now (chain n keyring.now head)) × Behind result n }
@@ -102,6 +103,7 @@ fn first_index(keyring: &[u8], n: usize, at: usize) -> usize
     0
 }
 
+#[tactic(auto, using(keyring_model::proofs::Facts::Fields, keyring_model::proofs::Facts::fields, keyring_model::proofs::Facts::valid_fields))]
 fn search(keyring: &[u8], label: &[u8]) -> Found
     requires { (validity.valid keyring.now ≡ true) × (length label.now ≡ 12) }
     ensures { (found_of result ≡ lookups.first_on_chain keyring.now label.now) × Behind result (records.records keyring.now) }
@@ -156,6 +158,7 @@ fn looked_at(keyring: &[u8], i: usize) -> Looked
     }
 }
 
+#[tactic(auto, using(keyring_validity::proofs::Fresh::fresh, crate::proofs::Calls::found_at, crate::proofs::Calls::found_none, crate::proofs::Calls::lookup_15, crate::proofs::Calls::lookup_past_15))]
 pub fn lookup(keyring: &[u8], label: &[u8]) -> Looked
     ensures { result ≡ looked_in (lookups.lookup keyring.now label.now) }
 {
@@ -173,6 +176,7 @@ pub fn lookup(keyring: &[u8], label: &[u8]) -> Looked
 // ---- add
 
 // The lowest index from 1 on that is not marked.
+#[tactic(auto, using(keyring_model::proofs::Walks::lowest_here, keyring_model::proofs::Walks::lowest_later))]
 fn lowest_free(marks: &[u8], n: usize) -> Found
     requires { (1 ≤ n) × (n ≤ length marks.now) }
     ensures { (found_of result ≡ adding.lowest (unmarked marks.now) (n - 1) 1) × Behind result n }
@@ -214,6 +218,7 @@ fn put_zeros(keyring: &mut [u8], at: usize, n: usize)
 }
 
 // A handle, and zeros behind it.
+#[tactic(auto, using(crate::proofs::Written::filled_written))]
 fn put_filled(keyring: &mut [u8], at: usize, handle: &[u8])
     requires { (at + 64 ≤ length keyring.old) × (length handle.now ≤ 64) }
     ensures { keyring.new ≡ sets keyring.old at (records.zero_filled handle.now) }
@@ -231,6 +236,7 @@ fn kind_for(size: usize) -> u8
     1
 }
 
+#[tactic(auto, using(crate::proofs::Written::handle_written))]
 fn put_handle(keyring: &mut [u8], i: usize, handle: &[u8])
     requires { (i * 80 + 80 ≤ length keyring.old) × (length handle.now ≤ 64) }
     ensures { keyring.new ≡ adding.put_handle keyring.old i handle.now }
@@ -240,6 +246,7 @@ fn put_handle(keyring: &mut [u8], i: usize, handle: &[u8])
     put_filled(keyring, at + HANDLE, handle);
 }
 
+#[tactic(auto, using(crate::proofs::Written::record_written))]
 fn put_record(keyring: &mut [u8], i: usize, label: &[u8], handle: &[u8])
     requires { (i * 80 + 80 ≤ length keyring.old) × (length label.now ≡ 12) × (length handle.now ≤ 64) }
     ensures { keyring.new ≡ adding.put_record keyring.old i label.now handle.now }
@@ -255,6 +262,7 @@ fn put_record(keyring: &mut [u8], i: usize, label: &[u8], handle: &[u8])
     put_index(keyring, place, i);
 }
 
+#[tactic(auto, using(keyring_model::proofs::Facts::Fields, keyring_model::proofs::Facts::fields, keyring_model::proofs::Facts::valid_fields))]
 fn add_new(keyring: &mut [u8], marks: &[u8], label: &[u8], handle: &[u8]) -> Added
     requires { (validity.valid keyring.old ≡ true) × (length label.now ≡ 12) × (length handle.now ≤ 64) × (length marks.now ≡ 819) }
     ensures { Adds result keyring.new (adding.added_new keyring.old label.now handle.now (adding.lowest (unmarked marks.now) (records.records keyring.old - 1) 1)) }
@@ -275,6 +283,7 @@ fn lengths_valid(label: usize, handle: usize) -> bool
     (label == LABEL_SIZE) & ((handle == HANDLE_128) | (handle == HANDLE_256))
 }
 
+#[tactic(auto, using(crate::proofs::Calls::found_at, crate::proofs::Calls::found_none, crate::proofs::Calls::add_15, crate::proofs::Calls::add_past_15, crate::proofs::Calls::tests, crate::proofs::Calls::adds_as, crate::proofs::Calls::free_marks, keyring_model::proofs::Facts::both, keyring_validity::proofs::Fresh::fresh))]
 pub fn add(keyring: &mut [u8], label: &[u8], handle: &[u8]) -> Added
     ensures { Adds result keyring.new (adding.add keyring.old label.now handle.now) }
 {

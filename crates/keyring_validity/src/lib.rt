@@ -36,6 +36,7 @@ fn size_valid(size: usize) -> bool
     (RECORD_SIZE <= size) & (size <= LIMIT) & (size % RECORD_SIZE == 0)
 }
 
+#[tactic(auto, using(keyring_model::proofs::Walks::every_more))]
 fn heads_inside(keyring: &[u8], n: usize) -> bool
     requires { (80 ≤ length keyring.now) × (n ≡ records.records keyring.now) }
     ensures { result ≡ validity.heads_inside keyring.now }
@@ -47,6 +48,7 @@ fn heads_inside(keyring: &[u8], n: usize) -> bool
     inside
 }
 
+#[tactic(auto, using(keyring_model::proofs::Walks::every_more))]
 fn tail_zero(keyring: &[u8]) -> bool
     requires { 80 ≤ length keyring.now }
     ensures { result ≡ validity.tail_zero keyring.now }
@@ -59,6 +61,7 @@ fn tail_zero(keyring: &[u8]) -> bool
 }
 
 // One pass over all records. Kind and zero byte are below 2 as one number where the kind is and the zero byte is 0.
+#[tactic(auto, using(keyring_model::proofs::Walks::every_more, crate::proofs::Checking::record_told))]
 fn records_valid(keyring: &[u8], n: usize) -> bool
     requires { (length keyring.now ≡ n * 80) × (n ≡ records.records keyring.now) × (1 ≤ n) × (n ≤ 819) }
     ensures { result ≡ validity.records_valid keyring.now }
@@ -87,6 +90,7 @@ fn fields_valid(keyring: &[u8]) -> bool
 
 // Marks the records of a chain; whether none of them was marked already. Index 0 is marked from the start, so that one test ends a chain and finds a record
 // that is reached twice.
+#[tactic(auto, using(keyring_model::proofs::Facts::Fields, keyring_model::proofs::Facts::fields, crate::proofs::Marking::all_marked, crate::proofs::Marking::met, crate::proofs::Marking::one_more, crate::proofs::Marking::not_end, crate::proofs::Marking::gives_some))]
 fn mark_chain(keyring: &[u8], n: usize, head: usize, marks: &mut [u8]) -> bool
     requires { (validity.fields_valid keyring.now ≡ true) × (n ≡ records.records keyring.now) × (head < n) × (length marks.old ≡ 819) × (get_or marks.old 0 0 ≡ 1) }
     ensures { Gives result marks.new (marked marks.old (chain n keyring.now head)) × (get_or marks.new 0 0 ≡ 1) }
@@ -106,6 +110,7 @@ fn mark_chain(keyring: &[u8], n: usize, head: usize, marks: &mut [u8]) -> bool
     }
 }
 
+#[tactic(auto, using(keyring_model::proofs::Facts::Fields, keyring_model::proofs::Facts::fields, crate::proofs::Marking::gives_none, crate::proofs::Marking::given_none, crate::proofs::Marking::given_some, crate::proofs::Marking::no_heads, crate::proofs::Marking::next_head, crate::proofs::Marking::twice_of_all))]
 fn mark_chains(keyring: &[u8], marks: &mut [u8]) -> bool
     requires { (validity.fields_valid keyring.now ≡ true) × (length marks.old ≡ 819) × (get_or marks.old 0 0 ≡ 1) }
     ensures { Gives result marks.new (marked marks.old (reached keyring.now)) }

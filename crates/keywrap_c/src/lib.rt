@@ -44,6 +44,7 @@ fn handle_to_bytes(h: Handle) -> [u8; 64]
     r
 }
 
+#[tactic(auto, using(crate::proofs::Forms::in_blocks))]
 fn handle_from_bytes(b: [u8; 64]) -> Handle
     ensures { whole_handle result ≡ b }
 {

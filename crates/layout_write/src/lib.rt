@@ -31,6 +31,7 @@ fn put_32(s: &mut [u8], at: usize, a: [u8; 32])
 }
 
 // From here on each function also says how many bytes it wrote, so that its caller knows where the next run begins.
+#[tactic(auto, using(crate::proofs::Write::key_length, crate::proofs::Write::key_written))]
 fn put_key(s: &mut [u8], at: usize, k: IwKey)
     requires { at + layout.iw_key_size ≤ length s.old }
     ensures { (s.new ≡ sets s.old at (layout.key_bytes k)) × (length (layout.key_bytes k) ≡ layout.iw_key_size) }
@@ -43,6 +44,7 @@ fn put_key(s: &mut [u8], at: usize, k: IwKey)
     s[at + NO_BACKUP] = k.no_backup;
 }
 
+#[tactic(auto, using(crate::proofs::Write::entry_length, crate::proofs::Write::entry_written))]
 fn put_entry(s: &mut [u8], at: usize, e: Processor)
     requires { at + layout.entry_size ≤ length s.old }
     ensures { (s.new ≡ sets s.old at (layout.entry_bytes e)) × (length (layout.entry_bytes e) ≡ layout.entry_size) }
@@ -52,6 +54,7 @@ fn put_entry(s: &mut [u8], at: usize, e: Processor)
     s[at + KEY_SIZE] = e.copy_status;
 }
 
+#[tactic(auto, using(crate::proofs::Write::entries_length, crate::proofs::Write::entries_written), unfolding(model::specs::Layout::entries_bytes))]
 fn put_entries(s: &mut [u8], at: usize, l: [Processor; 16])
     requires { at + processor_limit * layout.entry_size ≤ length s.old }
     ensures { (s.new ≡ sets s.old at (layout.entries_bytes l)) × (length (layout.entries_bytes l) ≡ processor_limit * layout.entry_size) }
@@ -71,6 +74,7 @@ fn put_slot(s: &mut [u8], at: usize, t: Slot)
     put_key(s, at + 1, key);
 }
 
+#[tactic(auto, using(crate::proofs::Write::platform_length, crate::proofs::Write::platform_written))]
 fn put_platform(s: &mut [u8], at: usize, f: Platform)
     requires { at + layout.platform_size ≤ length s.old }
     ensures { (s.new ≡ sets s.old at (layout.platform_bytes f)) × (length (layout.platform_bytes f) ≡ layout.platform_size) }

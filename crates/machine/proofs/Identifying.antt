@@ -4,8 +4,7 @@ use mathlib.Core.Path.{◌≡◌, ◌∙◌, sym, ap}
 use mathlib.Core.Bool.{Bool, true, false, not}
 use Prim.Native.Nat.{ℕ}
 use native.Mathlib.Nat.{suc-ne-zero}
-use lib.ListN.{length}
-use Rattle.model.specs.Cpu.{cpu_size, control}
+use Rattle.model.specs.Cpu.{control}
 use Rattle.model.specs.Validity.{valid}
 use Rattle.model.specs.declared.Machine.{Machine}
 use Rattle.cpuid_model.specs.Leaves.{zero_leaf, cpuid}

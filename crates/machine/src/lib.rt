@@ -121,6 +121,7 @@ pub fn power_on(count: u8, features: u8) -> Outcome
     refused(zeroed(0, 0, zero_platform()), 1)
 }
 
+#[tactic(auto, using(crate::proofs::Calls::done_with, crate::proofs::Calls::outcome_invalid, crate::proofs::Calls::code_refused, crate::proofs::Calls::code_done, crate::proofs::Calls::settling), unfolding(model::specs::Execution::perform))]
 pub fn settle(m: Machine, code: u8) -> Outcome
     ensures { result ≡ outcome_of (execution.call m (settle (record { code = code }))) }
 {
@@ -136,6 +137,7 @@ pub fn settle(m: Machine, code: u8) -> Outcome
     done(n)
 }
 
+#[tactic(auto, using(crate::proofs::Calls::zeroed_with, crate::proofs::Calls::done_with, crate::proofs::Calls::outcome_invalid, crate::proofs::Calls::code_refused, crate::proofs::Calls::code_done, crate::proofs::Calls::sleeping), unfolding(model::specs::Execution::perform))]
 pub fn sleep(m: Machine, code: u8) -> Outcome
     ensures { result ≡ outcome_of (execution.call m (sleep (record { code = code }))) }
 {
@@ -149,6 +151,7 @@ pub fn sleep(m: Machine, code: u8) -> Outcome
     done(zeroed(m.count, m.features, platform::wake(code, f)))
 }
 
+#[tactic(auto, using(crate::proofs::Calls::zeroed_with, crate::proofs::Calls::done_with, crate::proofs::Calls::outcome_invalid, crate::proofs::Calls::outcome_done), unfolding(model::specs::Execution::perform))]
 pub fn reset(m: Machine) -> Outcome
     ensures { result ≡ outcome_of (execution.call m reset) }
 {
@@ -158,6 +161,7 @@ pub fn reset(m: Machine) -> Outcome
     done(zeroed(m.count, m.features, zero_platform()))
 }
 
+#[tactic(auto, using(crate::proofs::Calls::done_with, crate::proofs::Calls::outcome_invalid, crate::proofs::Calls::outcome_done), unfolding(model::specs::Execution::perform))]
 pub fn taken(m: Machine) -> Outcome
     ensures { result ≡ outcome_of (execution.call m taken) }
 {
@@ -172,6 +176,7 @@ pub fn taken(m: Machine) -> Outcome
 
 // ---- the backup registers
 
+#[tactic(auto, using(crate::proofs::Calls::outcome_invalid, crate::proofs::Calls::outcome_refused, step::proofs::Ways::found_valid, crate::proofs::Registers::read_done))]
 pub fn read(m: Machine, processor: u8, cpl: u8, address: u32) -> Outcome
     ensures { result ≡ outcome_of (execution.call m (read (record { processor = processor; cpl = cpl; address = address }))) }
 {
@@ -191,6 +196,7 @@ pub fn read(m: Machine, processor: u8, cpl: u8, address: u32) -> Outcome
     }
 }
 
+#[tactic(auto, using(crate::proofs::Calls::done_with, crate::proofs::Calls::outcome_invalid, crate::proofs::Calls::outcome_refused, step::proofs::Ways::found_valid, crate::proofs::Registers::write_done))]
 pub fn write(m: Machine, processor: u8, cpl: u8, address: u32, value: u64) -> Outcome
     ensures { result ≡ outcome_of (execution.call m (write (record { processor = processor; cpl = cpl; address = address; value = value }))) }
 {
@@ -233,6 +239,7 @@ fn unidentified(n: u8) -> Identified
     }
 }
 
+#[tactic(auto, using(crate::proofs::Identifying::identified_invalid, crate::proofs::Identifying::identified_refused, crate::proofs::Identifying::identified_done))]
 pub fn cpuid(m: Machine, cpu: &[u8], leaf: u32, subleaf: u32) -> Identified
     ensures { result ≡ identified_of (identify m (record { cpu = cpu.now; leaf = leaf; subleaf = subleaf })) }
 {
