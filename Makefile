@@ -18,7 +18,7 @@
 #                NIST's vectors and OpenSSL
 # make test-run  keylocker-run, with programs that are compiled with the compiler's intrinsics of Key Locker
 # make test-install  the header, what is installed and removed, with programs that use it, the manual pages, the examples, and builds without the kit
-# make clean     remove build/; what rt made is in target/
+# make clean     remove build/; what was made by rt is in crates/*/out/, and the proved libraries for C in target/
 
 CC = gcc
 CFLAGS = -std=c11 -Wall -Wextra -O2
@@ -32,7 +32,7 @@ LIBKEYLOCKER = target/staticlib/libkeylocker.a
 OBJECTDIR = $(LIBDIR)/keylocker
 
 # all that the libraries are proved and compiled from
-SOURCES := crates.txt $(shell find crates -name '*.rt' -o -name '*.antt')
+SOURCES := crates.txt $(shell find crates -name out -prune -o \( -name '*.rt' -o -name '*.antt' \) -print)
 
 HEADERS := $(wildcard bench/*.h)
 BASELINE = measure aes_bytes aes_ttables
@@ -151,9 +151,9 @@ bench: build/bench_aes build/bench_keywrap build/bench_keylocker build/bench_key
 
 build/bench_aes: $(AES:%=build/%.o) target/staticlib/libaes_c.a
 build/bench_keywrap: $(KEYWRAP:%=build/%.o) target/staticlib/libkeywrap_c.a
-build/bench_keylocker: $(KEYLOCKER:%=build/%.o) target/staticlib/libkeylocker.a
-build/bench_keyring: $(KEYRING:%=build/%.o) target/staticlib/libkeylocker.a
-build/bench_run: build/run.o build/measure.o target/staticlib/libkeylocker.a
+build/bench_keylocker: $(KEYLOCKER:%=build/%.o) build/libkeylocker.a
+build/bench_keyring: $(KEYRING:%=build/%.o) build/libkeylocker.a
+build/bench_run: build/run.o build/measure.o build/libkeylocker.a
 build/bench_%:
 	$(CC) $(CFLAGS) -o $@ $^ -lm
 
@@ -165,25 +165,24 @@ build/%.o: bench/%.c $(HEADERS) include/keylocker.h
 LETTERS = $(filter-out --%,$(firstword -$(MAKEFLAGS)))
 target/staticlib/lib%.a: $(SOURCES)
 	@$(if $(strip $(foreach letter,n q t,$(findstring $(letter),$(LETTERS)))),,+)tools/prove.sh $*
-	@touch $@
 
-# rt keeps what a program wrote when it last ran
+# proves the program, too; what it writes is printed once it has ended well, and rt says the rest where programs put their errors
 examples:
 	@mkdir -p build
-	@rt check vectors >build/examples.log 2>&1 || \
-	    { echo "make examples: rt check vectors failed; build/examples.log has what it said" >&2; exit 1; }
-	@cat target/log/vectors.stdout
+	@(cd crates/vectors && rt run <stdin) >build/examples.txt 2>build/examples.log || \
+	    { echo "make examples: rt run failed in crates/vectors; build/examples.log has what it said" >&2; exit 1; }
+	@cat build/examples.txt
 
 test:
 	tests/run.sh
 
-# rt puts a program that it proved into target/bin
+# rt run proves a program and leaves it as out/NAME in its crate's folder
 test-decoder:
-	rt check disassemble
+	cd crates/disassemble && rt run <stdin >/dev/null
 	python3 tests/decoder.py --objdump
 
 test-machine:
-	rt check scenarios
+	cd crates/scenarios && rt run <stdin >/dev/null
 	python3 tests/scenarios.py --random 20000 1
 
 include tests/host/rules.mk

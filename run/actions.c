@@ -127,13 +127,24 @@ void pass_on(siginfo_t *info, ucontext_t *context)
         call_handler(&action, info, context);
 }
 
+/* Of a signal that is owned the kernel has our action, to which one that is sent from here looks as if the processor had made it. */
+static bool has_handler(int signal)
+{
+    struct kernel_action kernels = {0};
+    struct sigaction programs;
+    if (actions_owned(signal)) {
+        actions_exchange(signal, NULL, &programs);
+        return programs.sa_handler != SIG_DFL && programs.sa_handler != SIG_IGN;
+    }
+    kernel_sigaction(signal, NULL, &kernels);
+    return kernels.handler != SIG_DFL && kernels.handler != SIG_IGN;
+}
+
 void send_fault(const siginfo_t *info, ucontext_t *context)
 {
-    struct kernel_action action = {0};
     int signal = info->si_signo;
     uint64_t mask = bits_of(&context->uc_sigmask);
-    kernel_sigaction(signal, NULL, &action);
-    if (mask & signal_bit(signal) || action.handler == SIG_IGN)
+    if (mask & signal_bit(signal) || !has_handler(signal))
         set_default(signal);
     put_bits(&context->uc_sigmask, mask & ~signal_bit(signal));
     SYSTEM(SYS_rt_tgsigqueueinfo, SYSTEM(SYS_getpid), SYSTEM(SYS_gettid), signal, info);

@@ -4,7 +4,7 @@
   decoder.py --stdout   from tests/vectors/strings.txt write crates/disassemble/stdin and crates/disassemble/stdout, what the program
                         disassemble has to write
   decoder.py --check    exit with 1 where one of these two files is something else
-  decoder.py --objdump  run target/bin/disassemble, and exit with 1 where it differs from objdump on accepted strings, or from this decoder on
+  decoder.py --objdump  run crates/disassemble/out/disassemble, and exit with 1 where it differs from objdump on accepted strings, or from this decoder on
                         others. Accepted strings: LOCK or none, 67 or none, REX 40 to 4F or none, with every opcode, ModRM and SIB byte that goes with
                         them
 
@@ -24,7 +24,7 @@ ROOT = Path(__file__).resolve().parent.parent
 VECTORS = ROOT / "tests/vectors/strings.txt"
 STDIN = ROOT / "crates/disassemble/stdin"
 STDOUT = ROOT / "crates/disassemble/stdout"
-PROGRAM = ROOT / "target/bin/disassemble"
+PROGRAM = ROOT / "crates/disassemble/out/disassemble"
 
 # ---- the second decoder
 

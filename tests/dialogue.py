@@ -288,7 +288,7 @@ def test_terminal_interrupted(tmp):
 
 
 def test_terminal_interrupted_early(tmp):
-    """Directly behind a line, when that is or is not yet read: a terminal throws away at Ctrl-C what was typed."""
+    """Directly behind a line, when that is or is not yet read: a terminal throws away at Ctrl-C what was typed. Its echo, ^C, may come behind the last line."""
     rng = random.Random(6)
     for _ in range(200):
         terminal = Terminal("-")
@@ -300,7 +300,7 @@ def test_terminal_interrupted_early(tmp):
             pass
         terminal.type("\x03")
         shown, status = terminal.end()
-        need(status == 130 and shown.endswith("; interrupted\n"), status, shown)
+        need(status == 130 and shown.replace("^C", "", 1).endswith("; interrupted\n"), status, shown)
 
 
 def test_narrow_terminal(tmp):

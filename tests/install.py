@@ -1,7 +1,7 @@
 #!/usr/bin/env python3
 """The header, what make install installs, the manual pages, the examples, and how make proves: what make test-install runs, after make all.
 
-Nothing below build/ or target/ is written, so that other tests can run at the same time.
+Nothing below build/, target/ or crates/ is written, so that other tests can run at the same time.
 Prints a line for each test, and exits with 1 if one failed.
 """
 
@@ -378,7 +378,7 @@ def test_readme(tmp):
 
 def copied(tmp):
     """The repository, with nothing built."""
-    return shutil.copytree(ROOT, tmp / "copy", ignore=shutil.ignore_patterns(".git", "target", "build", "__pycache__"))
+    return shutil.copytree(ROOT, tmp / "copy", ignore=shutil.ignore_patterns(".git", "target", "build", "out", "__pycache__"))
 
 
 def path_without_rt(tmp):
@@ -407,21 +407,27 @@ def test_without_kit(tmp):
     need((copy / "build/libkeylocker.a").read_bytes() == b"other", "the library of the last make stays")
 
 
-# Says what rt says, and waits for the reader before it goes on.
+# Says what rt says, and waits for the reader before it goes on. Of bits, which has not changed, rt says nothing.
 RT = """#!/bin/sh
-echo "logic=proved
-rt: bits proved (unchanged since it was last proved)" >&2
+[ "${PWD##*/} $*" = "keylocker_c lib --cpu x86-64" ] || exit 2
+echo "rt: chose --jobs 2 for fips197
+fn fips197::sub_word: proved
+library bits: modules loaded=9 checked=0
+crate fips197: modules loaded=0 checked=33
+logic=proved functions=1 logic-built=trusted" >&2
 for i in $(seq 100); do [ -e go-on ] || sleep 0.1; done
 [ -e go-on ] || exit 1
-echo "rt: fips197 proved (9 s)" >&2
-mkdir -p target/staticlib
-echo >target/staticlib/lib$2.a
-echo "rt: target/staticlib/lib$2.a has the functions of $2"
+echo "crate keylocker_c: modules loaded=34 checked=0
+axioms std: none reached of the 2 declared
+logic=proved functions=12 target=x86_64-unknown-linux-gnu"
+mkdir -p out
+echo >out/libkeylocker_c.a
 """
 
 FAILING_RT = """#!/bin/sh
 for i in $(seq 60); do echo "line $i"; done
-echo "rt: bits NOT PROVED (exit 3, 1 s)"
+echo "crate bits: modules loaded=0 checked=9
+logic=not-proved"
 for i in $(seq 60); do echo "later $i"; done
 exit 3
 """
@@ -436,18 +442,19 @@ def with_rt(tmp, text):
 
 
 def crates_of(name):
-    """The crate and all that it is built on."""
-    uses = dict(line.split(":") for line in (ROOT / "crates.txt").read_text().splitlines() if not line.startswith("#"))
+    """How many crates it is, with all that it is built on."""
+    lines = [line.partition("#")[0].split(":") for line in (ROOT / "crates.txt").read_text().splitlines()]
+    uses = {line[0].split()[0]: line[1].split() for line in lines if len(line) == 2}
     reached, new = set(), {name}
     while new:
         reached |= new
-        new = {crate for one in new for crate in uses[one].split() if crate in uses} - reached
+        new = {crate for one in new for crate in uses[one] if crate in uses} - reached
     return len(reached)
 
 
 def test_prove(tmp):
-    """A line for each crate as it is proved, also where make holds the lines of others back."""
-    copy, total = copied(tmp), crates_of("keylocker")
+    """A line for each crate as it is proved, also where make holds the lines of others back, and nothing to do where nothing has changed."""
+    copy, total = copied(tmp), crates_of("keylocker_c")
     library, env = "target/staticlib/libkeylocker.a", with_rt(tmp, RT)
     must(make("-n", library, at=copy, env=env), 0, "make -n")
     need(not (copy / "build").exists(), "make -n proves")
@@ -455,23 +462,28 @@ def test_prove(tmp):
         lines = []
         for line in process.stdout:
             lines += [line] if " of " in line else []
-            if line.endswith("bits, unchanged\n"):
-                (copy / "go-on").touch()
+            if " fips197, " in line:
+                (copy / "crates/keylocker_c/go-on").touch()
     need(process.returncode == 0, "make", process.returncode, lines)
-    need(lines[:2] == [f"1 of {total} bits, unchanged\n", f"2 of {total} fips197, 9 s\n"], lines)
-    need(re.fullmatch(rf"3 of {total} keylocker, \d s\n", lines[2]) and len(lines) == 3, lines)
-    need("logic=proved\n" in (copy / "build/prove-keylocker.log").read_text(), "the log has not all that rt said")
+    need(lines[0] == f"1 of {total} bits, unchanged\n" and re.fullmatch(rf"2 of {total} fips197, \d s\n", lines[1]), lines)
+    need(re.fullmatch(rf"{total} of {total} keylocker_c, \d s\n", lines[-1]) and len(lines) == total, lines)
+    need({line.split()[-1] for line in lines[2:-1]} == {"unchanged"}, lines)
+    need("logic=proved functions=12" in (copy / "build/prove-keylocker.log").read_text(), "the log has not all that rt said")
+    need((copy / library).read_bytes() == b"\n", "another library")
+    need("up to date" in must(make(library, at=copy, env=env), 0, "make once more").stdout, "what has not changed is proved again")
 
 
 def test_prove_fails(tmp):
     """What was said last of the crate is shown, and where the rest is; the status is rt's."""
     copy, env = copied(tmp), with_rt(tmp, FAILING_RT)
     result = must(make("target/staticlib/libkeylocker.a", at=copy, env=env), 2, "make with an rt that fails")
-    need(f"1 of {crates_of('keylocker')} bits NOT PROVED (exit 3, 1 s)\n" in result.stdout, result.stdout)
+    need(f"1 of {crates_of('keylocker_c')} bits NOT PROVED\n" in result.stdout, result.stdout)
     said = result.stderr
-    need("line 60\nrt: bits NOT PROVED" in said and "line 20\n" not in said and "later" not in said and "prove-keylocker.log has all of it" in said, said)
+    need("line 60\ncrate bits: modules loaded=0 checked=9\nlogic=not-proved\n" in said, said)
+    need("line 20\n" not in said and "later" not in said and "prove-keylocker.log has all of it" in said, said)
     log = (copy / "build/prove-keylocker.log").read_text()
     need("line 1\n" in log and "later 60\n" in log, "the log has not all that rt said")
+    need(not (copy / "target").exists(), "a library without a proof")
     must(command(copy / "tools/prove.sh", "keylocker", env=env), 3, "tools/prove.sh")
 
 

@@ -3,7 +3,7 @@
 
   scenarios.py                   write crates/scenarios/stdin and crates/scenarios/stdout
   scenarios.py --check           exit with 1 where one of these two files is something else
-  scenarios.py --random N SEED   run target/bin/scenarios on N random calls, and exit with 1 where it differs from the model
+  scenarios.py --random N SEED   run crates/scenarios/out/scenarios on N random calls, and exit with 1 where it differs from the model
 
 All three first hold the model to the numbers that the scope gives for its examples K1 to K12, and to what each attack is meant to show. Handles are
 the model's: where the proved code encoded another one, the use that follows would fail.
@@ -23,7 +23,7 @@ from model import BAD, COPY_IN, COPY_OUT, GOOD, JUNK, NEW, OLD, Cpu, IWKey, Mach
 ROOT = Path(__file__).resolve().parent.parent
 STDIN = ROOT / "crates/scenarios/stdin"
 STDOUT = ROOT / "crates/scenarios/stdout"
-PROGRAM = ROOT / "target/bin/scenarios"
+PROGRAM = ROOT / "crates/scenarios/out/scenarios"
 
 # How many characters the program reads.
 STDIN_LIMIT = 196_608

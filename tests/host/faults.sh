@@ -21,7 +21,7 @@ build() {
         objects=$(echo "$objects" | grep -v "^build/host/$object\$")
         planted="$planted $work/$object"
     done
-    $CC -o "$work/runner" $objects $planted target/staticlib/libkeylocker.a
+    $CC -o "$work/runner" $objects $planted build/libkeylocker.a
 }
 
 # Whether the runner finds the fault; $how says where.

@@ -33,7 +33,7 @@ test-valgrind: build/test_host
 test-faults: build/test_host
 	CC="$(CC)" CFLAGS="$(HOST_FLAGS)" tests/host/faults.sh
 
-build/test_host: $(HOST_OBJECTS) target/staticlib/libkeylocker.a
+build/test_host: $(HOST_OBJECTS) build/libkeylocker.a
 	$(CC) $(HOST_FLAGS) -o $@ $^
 
 build/host/%.o: tests/host/%.c $(HOST_HEADERS)
@@ -42,9 +42,9 @@ build/host/%.o: tests/host/%.c $(HOST_HEADERS)
 
 test-stack: build/test_stack $(KINDS_OBJECTS) build/host/aes.o
 	./build/test_stack
-	CC="$(CC)" tests/host/secrets/run.sh $(KINDS_OBJECTS) build/host/aes.o target/staticlib/libkeylocker.a
+	CC="$(CC)" tests/host/secrets/run.sh $(KINDS_OBJECTS) build/host/aes.o build/libkeylocker.a
 
-build/test_stack: build/stack/stack.o $(KINDS_OBJECTS) target/staticlib/libkeylocker.a
+build/test_stack: build/stack/stack.o $(KINDS_OBJECTS) build/libkeylocker.a
 	$(CC) $(HOST_FLAGS) -o $@ $^
 
 build/stack/%.o: tests/host/stack/%.c $(wildcard tests/host/stack/*.h) $(HOST_HEADERS)
