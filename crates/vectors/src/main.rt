@@ -12,6 +12,7 @@ use line::read_full;
 use std::io;
 use std::io::{BufWriter, Write};
 
+// At most 65536 characters are read.
 fn main(rt: HostRuntime) -> io::Result<()> {
     let mut text = [0u8; 65536];
     let n = read_full(&mut rt.stdin(), &mut text)?;
