@@ -4,6 +4,8 @@
 // them another character than 0 to 9, a to f and A to F, or that ends with half a byte, is answered by "not hexadecimal".
 use crate::text::{print, print_decoded};
 use reader::decode;
+use std::io;
+use std::io::Write;
 
 #[derive(Clone, Copy)]
 pub struct Line {
@@ -45,44 +47,41 @@ fn with_other(line: Line) -> Line {
 }
 
 // The answer to a whole line.
-fn print_line(line: Line) {
+fn print_line(out: &mut impl Write, line: Line) -> io::Result<()> {
     if line.bad | (line.digits % 2 == 1) {
-        print(b"not hexadecimal\n");
-        return;
+        return print(out, b"not hexadecimal\n");
     }
     let bytes = line.bytes;
-    let n = io::count((line.digits / 2) as isize, &bytes);
-    print_decoded(decode(&bytes[..n]));
+    let n = (line.digits / 2).min(bytes.len());
+    print_decoded(out, decode(&bytes[..n]))
 }
 
 // The line with one more character.
-fn with(line: Line, c: u8) -> Line {
+fn with(out: &mut impl Write, line: Line, c: u8) -> io::Result<Line> {
     match c {
-        b'0'..=b'9' => with_digit(line, c % 16),
-        b'A'..=b'F' | b'a'..=b'f' => with_digit(line, c % 16 + 9),
+        b'0'..=b'9' => Ok(with_digit(line, c % 16)),
+        b'A'..=b'F' | b'a'..=b'f' => Ok(with_digit(line, c % 16 + 9)),
         b'\n' => {
-            print_line(line);
-            empty()
+            print_line(out, line)?;
+            Ok(empty())
         }
-        _ => with_other(line),
+        _ => Ok(with_other(line)),
     }
 }
 
 // The line after some more characters; each line that ends among them is answered.
-pub fn through(line: Line, text: &[u8]) -> Line {
+pub fn through(out: &mut impl Write, line: Line, text: &[u8]) -> io::Result<Line> {
     let mut l = line;
-    let mut i: usize = 0;
-    while i < text.len() {
-        let next = with(l, text[i]);
-        l = next;
-        i += 1;
+    for c in text {
+        l = with(out, l, *c)?;
     }
-    l
+    Ok(l)
 }
 
 // The last line may lack its line end.
-pub fn end(line: Line) {
+pub fn end(out: &mut impl Write, line: Line) -> io::Result<()> {
     if (line.digits > 0) | line.bad {
-        print_line(line);
+        print_line(out, line)?;
     }
+    Ok(())
 }

@@ -4,21 +4,24 @@
 mod line;
 mod text;
 
-use libc::STDIN_FILENO;
+use std::io;
+use std::io::{BufWriter, Read, Write};
 
-// A proved loop has to end, and nothing says that the input does: the loop counts down from a number that no run uses up.
-fn main() {
+// A proved loop has to end, and nothing says that the input does: the loop counts to a number that no run reaches. What is answered is written before more
+// is read, since the input may be a terminal.
+fn main(rt: HostRuntime) -> io::Result<()> {
+    let mut input = rt.stdin();
+    let mut out = BufWriter::new(rt.alloc(), io::writer(&rt))?;
     let mut line = line::empty();
-    let mut turns = u64::MAX;
-    let mut more = true;
-    while turns > 0 && more {
-        let mut buf = io::buffer();
-        let got = libc::read(STDIN_FILENO, &mut buf);
-        let n = io::count(got, &buf);
-        let next = line::through(line, &buf[..n]);
-        line = next;
-        more = n > 0;
-        turns -= 1;
+    let mut buf = [0u8; 4096];
+    for _ in 0..u64::MAX {
+        let n = input.read(&mut buf)?;
+        if n == 0 {
+            break;
+        }
+        line = line::through(&mut out, line, &buf[..n])?;
+        out.flush()?;
     }
-    line::end(line);
+    line::end(&mut out, line)?;
+    out.flush()
 }

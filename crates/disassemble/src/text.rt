@@ -4,51 +4,47 @@ use isa::{
     AddressSize, Base, Decoded, EncodeKey, Index, Instruction, LoadIwKey, MemoryPlace, Operand,
     Use, WideUse,
 };
-use libc::STDOUT_FILENO;
+use std::io;
+use std::io::Write;
 
-pub fn print(text: &[u8]) {
-    io::write_all(STDOUT_FILENO, text);
+pub fn print(out: &mut impl Write, text: &[u8]) -> io::Result<()> {
+    out.write_all(text)
 }
 
 // ---- registers
 
-fn print_xmm(n: u8) {
-    print(b"xmm");
-    io::print_decimal(STDOUT_FILENO, n as u64);
+fn print_xmm(out: &mut impl Write, n: u8) -> io::Result<()> {
+    write!(out, "xmm{n}")
 }
 
 // What the names of the first eight general registers end in.
-fn print_ending(n: u8) {
+fn print_ending(out: &mut impl Write, n: u8) -> io::Result<()> {
     match n {
-        0 => print(b"ax"),
-        1 => print(b"cx"),
-        2 => print(b"dx"),
-        3 => print(b"bx"),
-        4 => print(b"sp"),
-        5 => print(b"bp"),
-        6 => print(b"si"),
-        _ => print(b"di"),
+        0 => print(out, b"ax"),
+        1 => print(out, b"cx"),
+        2 => print(out, b"dx"),
+        3 => print(out, b"bx"),
+        4 => print(out, b"sp"),
+        5 => print(out, b"bp"),
+        6 => print(out, b"si"),
+        _ => print(out, b"di"),
     }
 }
 
-fn print_r64(n: u8) {
-    print(b"r");
+fn print_r64(out: &mut impl Write, n: u8) -> io::Result<()> {
     if n < 8 {
-        print_ending(n);
-        return;
+        print(out, b"r")?;
+        return print_ending(out, n);
     }
-    io::print_decimal(STDOUT_FILENO, n as u64);
+    write!(out, "r{n}")
 }
 
-fn print_r32(n: u8) {
+fn print_r32(out: &mut impl Write, n: u8) -> io::Result<()> {
     if n < 8 {
-        print(b"e");
-        print_ending(n);
-        return;
+        print(out, b"e")?;
+        return print_ending(out, n);
     }
-    print(b"r");
-    io::print_decimal(STDOUT_FILENO, n as u64);
-    print(b"d");
+    write!(out, "r{n}d")
 }
 
 // ---- memory places: the parts that are there, with signs between them; 67 is told by 32-bit names
@@ -60,194 +56,192 @@ fn is_32(size: AddressSize) -> bool {
     }
 }
 
-fn print_general(n: u8, narrow: bool) {
+fn print_general(out: &mut impl Write, n: u8, narrow: bool) -> io::Result<()> {
     if narrow {
-        print_r32(n);
-        return;
+        return print_r32(out, n);
     }
-    print_r64(n);
+    print_r64(out, n)
 }
 
-fn print_ip(narrow: bool) {
+fn print_ip(out: &mut impl Write, narrow: bool) -> io::Result<()> {
     if narrow {
-        print(b"eip");
-        return;
+        return print(out, b"eip");
     }
-    print(b"rip");
+    print(out, b"rip")
 }
 
 // Answers whether there is a base.
-fn print_base(base: Base, narrow: bool) -> bool {
+fn print_base(out: &mut impl Write, base: Base, narrow: bool) -> io::Result<bool> {
     match base {
-        Base::None => false,
+        Base::None => Ok(false),
         Base::Rip => {
-            print_ip(narrow);
-            true
+            print_ip(out, narrow)?;
+            Ok(true)
         }
         Base::Register(n) => {
-            print_general(n, narrow);
-            true
+            print_general(out, n, narrow)?;
+            Ok(true)
         }
     }
 }
 
-fn print_scale(scale: u8) {
+fn print_scale(out: &mut impl Write, scale: u8) -> io::Result<()> {
     match scale {
-        0 => print(b"*1"),
-        1 => print(b"*2"),
-        2 => print(b"*4"),
-        _ => print(b"*8"),
+        0 => print(out, b"*1"),
+        1 => print(out, b"*2"),
+        2 => print(out, b"*4"),
+        _ => print(out, b"*8"),
     }
 }
 
 // Answers whether a part stands before the displacement.
-fn print_index(index: Index, scale: u8, based: bool, narrow: bool) -> bool {
+fn print_index(
+    out: &mut impl Write,
+    index: Index,
+    scale: u8,
+    based: bool,
+    narrow: bool,
+) -> io::Result<bool> {
     match index {
-        Index::None => based,
+        Index::None => Ok(based),
         Index::Register(n) => {
             if based {
-                print(b"+");
+                print(out, b"+")?;
             }
-            print_general(n, narrow);
-            print_scale(scale);
-            true
+            print_general(out, n, narrow)?;
+            print_scale(out, scale)?;
+            Ok(true)
         }
     }
 }
 
 // A displacement of 0 is there only where nothing else is.
-fn print_displacement(d: u64, after: bool) {
+fn print_displacement(out: &mut impl Write, d: u64, after: bool) -> io::Result<()> {
     if d >= 0x8000_0000_0000_0000 {
-        print(b"-0x");
-        io::print_hex(STDOUT_FILENO, 0xFFFF_FFFF_FFFF_FFFF - d + 1, 1);
-        return;
+        return write!(out, "-0x{:x}", 0xFFFF_FFFF_FFFF_FFFF - d + 1);
     }
     if after {
         if d == 0 {
-            return;
+            return Ok(());
         }
-        print(b"+");
+        print(out, b"+")?;
     }
-    print(b"0x");
-    io::print_hex(STDOUT_FILENO, d, 1);
+    write!(out, "0x{d:x}")
 }
 
 // With 67 and without registers: the address itself. eiz is objdump's name for no register; without it the place would look like one without 67.
-fn print_absolute(d: u64) {
-    print(b"eiz*1+0x");
-    io::print_hex(STDOUT_FILENO, d % 0x1_0000_0000, 1);
+fn print_absolute(out: &mut impl Write, d: u64) -> io::Result<()> {
+    write!(out, "eiz*1+0x{:x}", d % 0x1_0000_0000)
 }
 
-fn print_memory(m: MemoryPlace) {
+fn print_memory(out: &mut impl Write, m: MemoryPlace) -> io::Result<()> {
     let base = m.base;
     let index = m.index;
     let size = m.address_size;
     let narrow = is_32(size);
-    print(b"[");
-    let based = print_base(base, narrow);
-    let after = print_index(index, m.scale, based, narrow);
+    print(out, b"[")?;
+    let based = print_base(out, base, narrow)?;
+    let after = print_index(out, index, m.scale, based, narrow)?;
     if narrow & !after {
-        print_absolute(m.displacement);
+        print_absolute(out, m.displacement)?;
     } else {
-        print_displacement(m.displacement, after);
+        print_displacement(out, m.displacement, after)?;
     }
-    print(b"]");
+    print(out, b"]")
 }
 
-fn print_xmm_operand(o: Operand) {
+fn print_xmm_operand(out: &mut impl Write, o: Operand) -> io::Result<()> {
     match o {
-        Operand::Register(n) => print_xmm(n),
-        Operand::Memory(m) => print_memory(m),
+        Operand::Register(n) => print_xmm(out, n),
+        Operand::Memory(m) => print_memory(out, m),
     }
 }
 
-fn print_r32_operand(o: Operand) {
+fn print_r32_operand(out: &mut impl Write, o: Operand) -> io::Result<()> {
     match o {
-        Operand::Register(n) => print_r32(n),
-        Operand::Memory(m) => print_memory(m),
+        Operand::Register(n) => print_r32(out, n),
+        Operand::Memory(m) => print_memory(out, m),
     }
 }
 
 // ---- instructions
 
-fn print_direction(d: Direction) {
+fn print_direction(out: &mut impl Write, d: Direction) -> io::Result<()> {
     match d {
-        Direction::Encrypt => print(b"aesenc"),
-        Direction::Decrypt => print(b"aesdec"),
+        Direction::Encrypt => print(out, b"aesenc"),
+        Direction::Decrypt => print(out, b"aesdec"),
     }
 }
 
-fn print_size(size: KeySize) {
+fn print_size(out: &mut impl Write, size: KeySize) -> io::Result<()> {
     match size {
-        KeySize::Aes128 => print(b"128"),
-        KeySize::Aes256 => print(b"256"),
+        KeySize::Aes128 => print(out, b"128"),
+        KeySize::Aes256 => print(out, b"256"),
     }
 }
 
-fn print_use(u: Use) {
+fn print_use(out: &mut impl Write, u: Use) -> io::Result<()> {
     let direction = u.direction;
     let size = u.size;
     let handle = u.handle;
-    print_direction(direction);
-    print_size(size);
-    print(b"kl ");
-    print_xmm(u.block);
-    print(b", ");
-    print_xmm_operand(handle);
+    print_direction(out, direction)?;
+    print_size(out, size)?;
+    print(out, b"kl ")?;
+    print_xmm(out, u.block)?;
+    print(out, b", ")?;
+    print_xmm_operand(out, handle)
 }
 
-fn print_wide_use(u: WideUse) {
+fn print_wide_use(out: &mut impl Write, u: WideUse) -> io::Result<()> {
     let direction = u.direction;
     let size = u.size;
     let handle = u.handle;
-    print_direction(direction);
-    print(b"wide");
-    print_size(size);
-    print(b"kl ");
-    print_xmm_operand(handle);
+    print_direction(out, direction)?;
+    print(out, b"wide")?;
+    print_size(out, size)?;
+    print(out, b"kl ")?;
+    print_xmm_operand(out, handle)
 }
 
-fn print_load_iwkey(l: LoadIwKey) {
+fn print_load_iwkey(out: &mut impl Write, l: LoadIwKey) -> io::Result<()> {
     let src2 = l.src2;
-    print(b"loadiwkey ");
-    print_xmm(l.src1);
-    print(b", ");
-    print_xmm_operand(src2);
+    print(out, b"loadiwkey ")?;
+    print_xmm(out, l.src1)?;
+    print(out, b", ")?;
+    print_xmm_operand(out, src2)
 }
 
-fn print_encode_key(e: EncodeKey) {
+fn print_encode_key(out: &mut impl Write, e: EncodeKey) -> io::Result<()> {
     let size = e.size;
     let source = e.source;
-    print(b"encodekey");
-    print_size(size);
-    print(b" ");
-    print_r32(e.destination);
-    print(b", ");
-    print_r32_operand(source);
+    print(out, b"encodekey")?;
+    print_size(out, size)?;
+    print(out, b" ")?;
+    print_r32(out, e.destination)?;
+    print(out, b", ")?;
+    print_r32_operand(out, source)
 }
 
-fn print_instruction(what: Instruction) {
+fn print_instruction(out: &mut impl Write, what: Instruction) -> io::Result<()> {
     match what {
-        Instruction::Use(u) => print_use(u),
-        Instruction::WideUse(u) => print_wide_use(u),
-        Instruction::LoadIwKey(l) => print_load_iwkey(l),
-        Instruction::EncodeKey(e) => print_encode_key(e),
+        Instruction::Use(u) => print_use(out, u),
+        Instruction::WideUse(u) => print_wide_use(out, u),
+        Instruction::LoadIwKey(l) => print_load_iwkey(out, l),
+        Instruction::EncodeKey(e) => print_encode_key(out, e),
     }
 }
 
-pub fn print_decoded(d: Decoded) {
+pub fn print_decoded(out: &mut impl Write, d: Decoded) -> io::Result<()> {
     match d {
         Decoded::Found { what, lock, next } => {
             if lock {
-                print(b"lock ");
+                print(out, b"lock ")?;
             }
-            print_instruction(what);
-            print(b" ; ");
-            io::print_decimal(STDOUT_FILENO, next as u64);
-            print(b" bytes\n");
+            print_instruction(out, what)?;
+            writeln!(out, " ; {next} bytes")
         }
-        Decoded::BadByte => print(b"refused 8\n"),
-        Decoded::EndOfString => print(b"refused 9\n"),
-        Decoded::Empty => print(b"idle ; 0 bytes\n"),
+        Decoded::BadByte => print(out, b"refused 8\n"),
+        Decoded::EndOfString => print(out, b"refused 9\n"),
+        Decoded::Empty => print(out, b"idle ; 0 bytes\n"),
     }
 }

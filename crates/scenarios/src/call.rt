@@ -14,19 +14,21 @@ use report::{
     print, print_changes, print_decimal, print_kind, print_machine, print_registers, print_word,
     word,
 };
+use std::io;
+use std::io::Write;
 use step::Answer;
 
 // 0, or the number of the refusal; answers whether there was none.
-pub fn print_answer(answer: Answer) -> bool {
-    print(b" ");
+pub fn print_answer(out: &mut impl Write, answer: Answer) -> io::Result<bool> {
+    print(out, b" ")?;
     match answer {
         Answer::Done => {
-            print_decimal(0);
-            true
+            print_decimal(out, 0)?;
+            Ok(true)
         }
         Answer::Refused(n) => {
-            print_decimal(n as u64);
-            false
+            print_decimal(out, n as u64)?;
+            Ok(false)
         }
     }
 }
@@ -48,16 +50,16 @@ fn outcome(m: Machine, a: [u8; 960]) -> Outcome {
     }
 }
 
-fn other(m: Machine, a: [u8; 960]) -> Machine {
+fn other(out: &mut impl Write, m: Machine, a: [u8; 960]) -> io::Result<Machine> {
     let o = outcome(m, a);
     let after = o.machine;
     let answer = o.answer;
-    if print_answer(answer) & (a[0] == 1) {
-        print(b" value ");
-        print_decimal(o.value);
+    if print_answer(out, answer)? & (a[0] == 1) {
+        print(out, b" value ")?;
+        print_decimal(out, o.value)?;
     }
-    print_machine(m, after);
-    after
+    print_machine(out, m, after)?;
+    Ok(after)
 }
 
 pub fn at_most(n: usize, most: usize) -> usize
@@ -76,24 +78,24 @@ pub fn length_at(a: &[u8], at: usize, most: usize) -> usize
     at_most((word(a, at) / 65536) as usize, most)
 }
 
-pub fn print_zf(cpu: &[u8]) {
-    print(b" zf ");
-    print_decimal(word(cpu, 392) as u64 / 1073741824 % 2);
+pub fn print_zf(out: &mut impl Write, cpu: &[u8]) -> io::Result<()> {
+    print(out, b" zf ")?;
+    print_decimal(out, word(cpu, 392) as u64 / 1073741824 % 2)
 }
 
 // ZF, XMM0, and all that changed.
-fn print_cpu(old: &[u8], new: &[u8]) {
-    print_zf(new);
-    print(b" xmm0 ");
-    print_word(word(new, 0));
-    print_word(word(new, 4));
-    print_word(word(new, 8));
-    print_word(word(new, 12));
-    print_changes(b" cpu", old, new);
+fn print_cpu(out: &mut impl Write, old: &[u8], new: &[u8]) -> io::Result<()> {
+    print_zf(out, new)?;
+    print(out, b" xmm0 ")?;
+    print_word(out, word(new, 0))?;
+    print_word(out, word(new, 4))?;
+    print_word(out, word(new, 8))?;
+    print_word(out, word(new, 12))?;
+    print_changes(out, b" cpu", old, new)
 }
 
 // The machine is lent by `step_through`; the CPU record is lent from a copy of the call's bytes, and then compared with them.
-fn step(m: Machine, a: &[u8], b: &mut [u8]) -> Machine
+fn step(out: &mut impl Write, m: Machine, a: &[u8], b: &mut [u8]) -> io::Result<Machine>
     requires { (length a.now ≡ 960) × (length b.old ≡ 960) }
 {
     let c = 24 + length_at(a, 16, 416);
@@ -103,64 +105,64 @@ fn step(m: Machine, a: &[u8], b: &mut [u8]) -> Machine
     let x = step_through(m, a[1], &mut b[24..c], &a[440..d], &a[696..e], &a[760..f]);
     let after = x.machine;
     let answer = x.answer;
-    if print_answer(answer) {
-        print_cpu(&a[24..c], &b[24..c]);
+    if print_answer(out, answer)? {
+        print_cpu(out, &a[24..c], &b[24..c])?;
     }
-    print_machine(m, after);
-    after
+    print_machine(out, m, after)?;
+    Ok(after)
 }
 
-fn cpuid(m: Machine, a: &[u8])
+fn cpuid(out: &mut impl Write, m: Machine, a: &[u8]) -> io::Result<()>
     requires { length a.now ≡ 960 }
 {
     let c = 24 + length_at(a, 16, 416);
     let x = machine::cpuid(m, &a[24..c], word(a, 4), word(a, 12));
     let answer = x.answer;
     let registers = x.registers;
-    if print_answer(answer) {
-        print_registers(registers);
+    if print_answer(out, answer)? {
+        print_registers(out, registers)?;
     }
-    print_machine(m, m);
+    print_machine(out, m, m)
 }
 
 // The machine after the call of a line.
-fn call(m: Machine, text: &[u8]) -> Machine {
+fn call(out: &mut impl Write, m: Machine, text: &[u8]) -> io::Result<Machine> {
     let n = find(text, 0, b' ');
-    print(&text[0..n]);
+    print(out, &text[0..n])?;
     let a = bytes(&text[n..]);
-    print_kind(a[0]);
+    print_kind(out, a[0])?;
     match a[0] {
-        0..=5 => other(m, a),
+        0..=5 => other(out, m, a),
         6 => {
             let mut b = a;
-            step(m, &a, &mut b)
+            step(out, m, &a, &mut b)
         }
         7 => {
             let after = read_machine(&a[24..948]);
-            print_machine(m, after);
-            after
+            print_machine(out, m, after)?;
+            Ok(after)
         }
         8 => {
-            cpuid(m, &a);
-            m
+            cpuid(out, m, &a)?;
+            Ok(m)
         }
-        9 => other(m, a),
+        9 => other(out, m, a),
         _ => {
-            ctr(m, a);
-            m
+            ctr(out, m, a)?;
+            Ok(m)
         }
     }
 }
 
 // The calls, line by line, on one machine.
-pub fn all(text: &[u8]) {
+pub fn all(out: &mut impl Write, text: &[u8]) -> io::Result<()> {
     let o = machine::power_on(0, 0);
     let mut m = o.machine;
     let mut at: usize = 0;
     while at < text.len() {
         let end = find(text, at, b'\n');
-        let next = call(m, &text[at..end]);
-        m = next;
+        m = call(out, m, &text[at..end])?;
         at = end + 1;
     }
+    Ok(())
 }

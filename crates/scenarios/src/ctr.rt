@@ -5,22 +5,29 @@ ghost use Rattle.std.specs.Prelude.{◌≡◌, length};
 use crate::call::{at_most, length_at, print_answer, print_zf};
 use model::Machine;
 use report::{print_changes, print_machine, word};
+use std::io;
+use std::io::Write;
 
 // A byte more than a call takes, in whole words.
 fn buffer_of(a: [u8; 960]) -> [u8; 65540]
     ensures { 65540 ≡ length result }
 {
     let mut buffer = [0u8; 65540];
-    let mut i: usize = 0;
-    while i < 200 {
+    for i in 0..200 {
         buffer[i] = a[760 + i];
-        i += 1;
     }
     buffer
 }
 
 // CPU record and buffer are lent from copies, and then compared with what they were.
-fn count(m: Machine, a: &[u8], b: &mut [u8], old: &[u8], new: &mut [u8])
+fn count(
+    out: &mut impl Write,
+    m: Machine,
+    a: &[u8],
+    b: &mut [u8],
+    old: &[u8],
+    new: &mut [u8],
+) -> io::Result<()>
     requires { (length a.now ≡ 960) × (length b.old ≡ 960) × (length new.old ≡ 65540) }
 {
     let c = 24 + length_at(a, 16, 416);
@@ -35,17 +42,17 @@ fn count(m: Machine, a: &[u8], b: &mut [u8], old: &[u8], new: &mut [u8])
         &a[696..e],
         &mut new[0..n],
     );
-    if print_answer(answer) {
-        print_zf(&b[24..c]);
-        print_changes(b" cpu", &a[24..c], &b[24..c]);
-        print_changes(b" buffer", old, new);
+    if print_answer(out, answer)? {
+        print_zf(out, &b[24..c])?;
+        print_changes(out, b" cpu", &a[24..c], &b[24..c])?;
+        print_changes(out, b" buffer", old, new)?;
     }
-    print_machine(m, m);
+    print_machine(out, m, m)
 }
 
-pub fn ctr(m: Machine, a: [u8; 960]) {
+pub fn ctr(out: &mut impl Write, m: Machine, a: [u8; 960]) -> io::Result<()> {
     let mut b = a;
     let old = buffer_of(a);
     let mut new = old;
-    count(m, &a, &mut b, &old, &mut new);
+    count(out, m, &a, &mut b, &old, &mut new)
 }

@@ -6,7 +6,9 @@ mod ctr;
 
 ghost use Rattle.std.specs.Prelude.{◌≡◌, length};
 
-use libc::STDIN_FILENO;
+use line::read_full;
+use std::io;
+use std::io::{BufWriter, Write};
 
 // How many characters are read at most.
 fn room() -> [u8; 196608]
@@ -15,8 +17,10 @@ fn room() -> [u8; 196608]
     [0; 196608]
 }
 
-fn main() {
+fn main(rt: HostRuntime) -> io::Result<()> {
     let mut text = room();
-    let n = io::read_full(STDIN_FILENO, &mut text);
-    call::all(&text[..n]);
+    let n = read_full(&mut rt.stdin(), &mut text)?;
+    let mut out = BufWriter::new(rt.alloc(), io::writer(&rt))?;
+    call::all(&mut out, &text[..n])?;
+    out.flush()
 }

@@ -4,76 +4,85 @@ use crate::print::{print, print_block, print_word, start};
 use aes::Block;
 use aes::word::{block_at, to_bytes};
 use fips197::KeySize;
+use std::io;
+use std::io::Write;
 
-fn print_blocks(bytes: &[u8]) {
-    let n = bytes.len() / 16;
-    let mut i: usize = 0;
-    while i < n {
-        let at = 16 * i;
-        print_block(block_at(bytes, at));
-        i += 1;
+fn print_blocks(out: &mut impl Write, bytes: &[u8]) -> io::Result<()> {
+    for i in 0..bytes.len() / 16 {
+        print_block(out, block_at(bytes, 16 * i))?;
     }
+    Ok(())
 }
 
 // The schedule's words: those of one round key more than there are rounds.
-fn print_schedule(w: [u32; 60], rounds: usize) {
-    let mut i: usize = 0;
-    while i < 60 {
+fn print_schedule(out: &mut impl Write, w: [u32; 60], rounds: usize) -> io::Result<()> {
+    for i in 0..60 {
         if i / 4 <= rounds {
-            print(b" ");
-            print_word(w[i]);
+            print(out, b" ")?;
+            print_word(out, w[i])?;
         }
-        i += 1;
     }
+    Ok(())
 }
 
-pub fn expand(name: &[u8], a: [u8; 960]) {
+pub fn expand(out: &mut impl Write, name: &[u8], a: [u8; 960]) -> io::Result<()> {
     let size = key_size(a);
-    print(b"expand ");
-    print(name);
+    print(out, b"expand ")?;
+    print(out, name)?;
     print_schedule(
+        out,
         aes_c::key_expansion(size, key(a, 0)),
         aes::cipher::rounds(size),
-    );
-    print(b"\n");
+    )?;
+    print(out, b"\n")
 }
 
 // One block, in both directions: what was computed is then deciphered.
-fn cipher_one(name: &[u8], size: KeySize, w: &[u32; 60], plaintext: Block) {
+fn cipher_one(
+    out: &mut impl Write,
+    name: &[u8],
+    size: KeySize,
+    w: &[u32; 60],
+    plaintext: Block,
+) -> io::Result<()> {
     let c = aes_c::encrypt_block(size, w, plaintext);
-    start(b"encrypt ", name);
-    print_block(c);
-    start(b"\ndecrypt ", name);
-    print_block(aes_c::decrypt_block(size, w, c));
-    print(b"\n");
+    start(out, b"encrypt ", name)?;
+    print_block(out, c)?;
+    start(out, b"\ndecrypt ", name)?;
+    print_block(out, aes_c::decrypt_block(size, w, c))?;
+    print(out, b"\n")
 }
 
 fn eight_times(block: [u8; 16]) -> [u8; 128] {
     let mut bytes = [0u8; 128];
-    let mut i: usize = 0;
-    while i < 128 {
+    for i in 0..128 {
         bytes[i] = block[i % 16];
-        i += 1;
     }
     bytes
 }
 
 // The block eight times.
-fn cipher_eight(name: &[u8], size: KeySize, w: &[u32; 60], plaintext: Block) {
+fn cipher_eight(
+    out: &mut impl Write,
+    name: &[u8],
+    size: KeySize,
+    w: &[u32; 60],
+    plaintext: Block,
+) -> io::Result<()> {
     let mut bytes = eight_times(to_bytes(plaintext));
     aes_c::encrypt_blocks(size, w, &mut bytes);
-    start(b"encrypt8 ", name);
-    print_blocks(&bytes);
+    start(out, b"encrypt8 ", name)?;
+    print_blocks(out, &bytes)?;
     aes_c::decrypt_blocks(size, w, &mut bytes);
-    start(b"\ndecrypt8 ", name);
-    print_blocks(&bytes);
-    print(b"\n");
+    start(out, b"\ndecrypt8 ", name)?;
+    print_blocks(out, &bytes)?;
+    print(out, b"\n")
 }
 
-pub fn cipher(name: &[u8], a: [u8; 960]) {
+pub fn cipher(out: &mut impl Write, name: &[u8], a: [u8; 960]) -> io::Result<()> {
     let size = key_size(a);
     let w = aes_c::key_expansion(size, key(a, 16));
     let plaintext = block(a, 0);
-    cipher_one(name, size, &w, plaintext);
-    cipher_eight(name, size, &w, plaintext);
+    cipher_one(out, name, size, &w, plaintext)?;
+    cipher_eight(out, name, size, &w, plaintext)
 }

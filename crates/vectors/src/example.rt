@@ -5,6 +5,8 @@ use aes::word::block_at;
 use aes::{Block, Key};
 use fips197::KeySize;
 use line::{bytes, find};
+use std::io;
+use std::io::Write;
 
 // The block at a place of the fields.
 pub fn block(a: [u8; 960], at: u8) -> Block {
@@ -25,31 +27,32 @@ pub fn key_size(a: [u8; 960]) -> KeySize {
     }
 }
 
-fn run(name: &[u8], a: [u8; 960]) {
+fn run(out: &mut impl Write, name: &[u8], a: [u8; 960]) -> io::Result<()> {
     match a[0] {
-        0 => ciphers::expand(name, a),
-        1 => ciphers::cipher(name, a),
-        2 => rfc8452::sum(name, a),
-        3 => rfc8452::dot(name, a),
-        4 => rfc8452::polyval(name, a),
-        5 => handles::handle(name, a),
-        6 => handles::refused(name, a),
-        _ => sp800_38a::ctr(name, a),
+        0 => ciphers::expand(out, name, a),
+        1 => ciphers::cipher(out, name, a),
+        2 => rfc8452::sum(out, name, a),
+        3 => rfc8452::dot(out, name, a),
+        4 => rfc8452::polyval(out, name, a),
+        5 => handles::handle(out, name, a),
+        6 => handles::refused(out, name, a),
+        _ => sp800_38a::ctr(out, name, a),
     }
 }
 
 // The example of a line.
-fn example(text: &[u8]) {
+fn example(out: &mut impl Write, text: &[u8]) -> io::Result<()> {
     let n = find(text, 0, b' ');
-    run(&text[0..n], bytes(&text[n..]));
+    run(out, &text[0..n], bytes(&text[n..]))
 }
 
 // The examples, line by line.
-pub fn all(text: &[u8]) {
+pub fn all(out: &mut impl Write, text: &[u8]) -> io::Result<()> {
     let mut at: usize = 0;
     while at < text.len() {
         let end = find(text, at, b'\n');
-        example(&text[at..end]);
+        example(out, &text[at..end])?;
         at = end + 1;
     }
+    Ok(())
 }

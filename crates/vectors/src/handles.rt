@@ -4,44 +4,45 @@ use crate::print::{print, print_block, start};
 use aes::Key;
 use fips197::KeySize;
 use keywrap::{Handle, Unwrapped};
+use std::io;
+use std::io::Write;
 
-fn print_key(size: KeySize, key: Key) {
-    print_block(key.low);
+fn print_key(out: &mut impl Write, size: KeySize, key: Key) -> io::Result<()> {
+    print_block(out, key.low)?;
     match size {
-        KeySize::Aes128 => print(b"\n"),
+        KeySize::Aes128 => print(out, b"\n"),
         KeySize::Aes256 => {
-            print_block(key.high);
-            print(b"\n");
+            print_block(out, key.high)?;
+            print(out, b"\n")
         }
     }
 }
 
 // Under the example's IWKey, its first two fields.
-fn unwrap(name: &[u8], a: [u8; 960], handle: Handle) {
+fn unwrap(out: &mut impl Write, name: &[u8], a: [u8; 960], handle: Handle) -> io::Result<()> {
     let size = key_size(a);
-    start(b"unwrap ", name);
+    start(out, b"unwrap ", name)?;
     let Unwrapped::Key(found) = keywrap_c::unwrap(size, block(a, 0), key(a, 16), handle) else {
-        print(b"none\n");
-        return;
+        return print(out, b"none\n");
     };
-    print_key(size, found);
+    print_key(out, size, found)
 }
 
-pub fn handle(name: &[u8], a: [u8; 960]) {
+pub fn handle(out: &mut impl Write, name: &[u8], a: [u8; 960]) -> io::Result<()> {
     let size = key_size(a);
     let h = keywrap::siv::wrap(size, block(a, 0), key(a, 16), block(a, 48), key(a, 64));
-    start(b"wrap ", name);
-    print_block(h.aad);
-    print_block(h.tag);
-    print_key(size, h.ciphertext);
-    unwrap(name, a, h);
+    start(out, b"wrap ", name)?;
+    print_block(out, h.aad)?;
+    print_block(out, h.tag)?;
+    print_key(out, size, h.ciphertext)?;
+    unwrap(out, name, a, h)
 }
 
-pub fn refused(name: &[u8], a: [u8; 960]) {
+pub fn refused(out: &mut impl Write, name: &[u8], a: [u8; 960]) -> io::Result<()> {
     let h = Handle {
         aad: block(a, 48),
         tag: block(a, 64),
         ciphertext: key(a, 80),
     };
-    unwrap(name, a, h);
+    unwrap(out, name, a, h)
 }

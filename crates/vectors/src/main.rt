@@ -8,10 +8,15 @@ mod print;
 mod rfc8452;
 mod sp800_38a;
 
-use libc::STDIN_FILENO;
+use line::read_full;
+use std::io;
+use std::io::{BufWriter, Write};
 
-fn main() {
-    let mut text = io::large_buffer();
-    let n = io::read_full(STDIN_FILENO, &mut text);
-    example::all(&text[..n]);
+// At most 65536 characters are read.
+fn main(rt: HostRuntime) -> io::Result<()> {
+    let mut text = [0u8; 65536];
+    let n = read_full(&mut rt.stdin(), &mut text)?;
+    let mut out = BufWriter::new(rt.alloc(), io::writer(&rt))?;
+    example::all(&mut out, &text[..n])?;
+    out.flush()
 }

@@ -2,13 +2,15 @@
 use crate::example::block;
 use crate::print::{print, print_block, start};
 use aes::Block;
+use std::io;
+use std::io::Write;
 
-fn print_polyval(h: Block, blocks: &[u8]) {
-    print_block(polyval::polyval(h, blocks));
-    print(b"\n");
+fn print_polyval(out: &mut impl Write, h: Block, blocks: &[u8]) -> io::Result<()> {
+    print_block(out, polyval::polyval(h, blocks))?;
+    print(out, b"\n")
 }
 
-pub fn sum(name: &[u8], a: [u8; 960]) {
+pub fn sum(out: &mut impl Write, name: &[u8], a: [u8; 960]) -> io::Result<()> {
     // x^127 + x^126 + x^121 + 1
     let one = Block {
         a: 1,
@@ -16,17 +18,17 @@ pub fn sum(name: &[u8], a: [u8; 960]) {
         c: 0,
         d: 0xC200_0000,
     };
-    start(b"sum ", name);
-    print_polyval(one, &a[2..34]);
+    start(out, b"sum ", name)?;
+    print_polyval(out, one, &a[2..34])
 }
 
-pub fn dot(name: &[u8], a: [u8; 960]) {
-    start(b"dot ", name);
-    print_polyval(block(a, 16), &a[2..18]);
+pub fn dot(out: &mut impl Write, name: &[u8], a: [u8; 960]) -> io::Result<()> {
+    start(out, b"dot ", name)?;
+    print_polyval(out, block(a, 16), &a[2..18])
 }
 
-pub fn polyval(name: &[u8], a: [u8; 960]) {
+pub fn polyval(out: &mut impl Write, name: &[u8], a: [u8; 960]) -> io::Result<()> {
     let end = 18 + a[1] as usize % 8 * 16;
-    start(b"polyval ", name);
-    print_polyval(block(a, 0), &a[18..end]);
+    start(out, b"polyval ", name)?;
+    print_polyval(out, block(a, 0), &a[18..end])
 }
