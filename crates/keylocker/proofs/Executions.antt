@@ -10,7 +10,6 @@ use lib.ListN.{length, get_or}
 use borrow.Author.Tests.{eqb-true, eq-eqb}
 use Rattle.bits.proofs.Choice.{cond_on, on_cond}
 use Rattle.model.specs.Calls.{PowerOn, StepCall, CounterCall, ReadCall, WriteCall, Call, step, counter, read, write, settle, sleep, reset, taken, Answer}
-use Rattle.model.specs.Refusals.{first}
 use Rattle.model.specs.Execution.{power_on, Run, run}
 use Rattle.model.specs.History.{name_at, history}
 use Rattle.model.specs.Demand3.{held, Demand3, CounterCalls}

@@ -29,6 +29,7 @@ fn finish(block: &mut [u8], o: Outcome) -> u32
 }
 
 #[unsafe(no_mangle)]
+#[tactic(auto, using(crate::proofs::Finishing::power_on_short))]
 pub extern "C" fn keylocker_power_on(machine: &mut [u8], count: u8, features: u8) -> u32
     ensures { PowerOnPromise machine.old (record { count = count; features = features }) machine.new result }
 {
@@ -130,6 +131,7 @@ pub extern "C" fn keylocker_write(
 // ---- step
 
 #[unsafe(no_mangle)]
+#[tactic(auto, using(crate::proofs::Finishing::step_short, crate::proofs::Finishing::step_block))]
 pub extern "C" fn keylocker_step(
     machine: &mut [u8],
     processor: u8,
@@ -160,6 +162,7 @@ pub extern "C" fn keylocker_step(
 
 // The machine is lent as to a step and not written.
 #[unsafe(no_mangle)]
+#[tactic(auto, using(crate::proofs::Finishing::counter_short))]
 pub extern "C" fn keylocker_ctr(
     machine: &mut [u8],
     processor: u8,
@@ -184,6 +187,7 @@ pub extern "C" fn keylocker_ctr(
 
 // Machine and CPU record are not written, and the four registers only where the answer is 0.
 #[unsafe(no_mangle)]
+#[tactic(auto, using(cpuid_model::proofs::Calls::lent_short, crate::proofs::Finishing::cpuid_called))]
 pub extern "C" fn keylocker_cpuid(
     machine: &[u8],
     cpu: &[u8],
