@@ -1,10 +1,10 @@
 // A call's bytes: its kind, a processor (or the count, or a code), a CPL (or the features), one left free, an address (or a leaf; 4 bytes) and a value (or
 // a subleaf; 8), the lengths of CPU record, memory, random data and string (2 each), numbers with the highest byte first. From 24 on the CPU record, from
 // 440 the memory, from 696 the random data, from 760 the string; or from 24 on a machine record, which takes the place of the machine at hand.
-// Kinds are those of print_kind; ctr.rt says where a counter call has its bytes.
+// Kinds are those of print_kind; counter_call.rt says where a counter call has its bytes.
 ghost use Rattle.std.specs.Prelude.{◌≡◌, ◌≤◌, length};
 
-use crate::ctr::ctr;
+use crate::counter_call::ctr;
 use layout::read_machine;
 use lent::{Stepped, step_through};
 use line::{bytes, find};
@@ -33,7 +33,7 @@ pub fn print_answer(out: &mut impl Write, answer: Answer) -> io::Result<bool> {
     }
 }
 
-// All calls but step, CPUID and those of ctr.rt.
+// All calls but step, CPUID and those of counter_call.rt.
 fn outcome(m: Machine, a: [u8; 960]) -> Outcome {
     let x = a[1];
     let y = a[2];

@@ -2,7 +2,7 @@
 #![tactic(auto)]
 
 mod call;
-mod ctr;
+mod counter_call;
 
 ghost use Rattle.std.specs.Prelude.{◌≡◌, length};
 

@@ -1,6 +1,6 @@
 // An example's bytes: its kind, how many blocks of 16 bytes its last field has (a key one or two, POLYVAL's input up to seven), and its fields.
 // Kinds are those of run.
-use crate::{ciphers, handles, rfc8452, sp800_38a};
+use crate::{ciphers, counter_mode, handles, polyvals};
 use aes::word::block_at;
 use aes::{Block, Key};
 use fips197::KeySize;
@@ -31,12 +31,12 @@ fn run(out: &mut impl Write, name: &[u8], a: [u8; 960]) -> io::Result<()> {
     match a[0] {
         0 => ciphers::expand(out, name, a),
         1 => ciphers::cipher(out, name, a),
-        2 => rfc8452::sum(out, name, a),
-        3 => rfc8452::dot(out, name, a),
-        4 => rfc8452::polyval(out, name, a),
+        2 => polyvals::sum(out, name, a),
+        3 => polyvals::dot(out, name, a),
+        4 => polyvals::polyval(out, name, a),
         5 => handles::handle(out, name, a),
         6 => handles::refused(out, name, a),
-        _ => sp800_38a::ctr(out, name, a),
+        _ => counter_mode::ctr(out, name, a),
     }
 }
 

@@ -2,11 +2,11 @@
 #![tactic(auto)]
 
 mod ciphers;
+mod counter_mode;
 mod example;
 mod handles;
+mod polyvals;
 mod print;
-mod rfc8452;
-mod sp800_38a;
 
 use line::read_full;
 use std::io;
