@@ -31,9 +31,6 @@ DOCDIR = $(PREFIX)/share/doc/keylocker
 LIBKEYLOCKER = target/staticlib/libkeylocker.a
 OBJECTDIR = $(LIBDIR)/keylocker
 
-# all that the libraries are proved and compiled from
-SOURCES := crates.txt $(shell find crates -name out -prune -o \( -name '*.rt' -o -name '*.antt' \) -print)
-
 HEADERS := $(wildcard bench/*.h)
 BASELINE = measure aes_bytes aes_ttables
 AES = aes $(BASELINE)
@@ -163,7 +160,12 @@ build/%.o: bench/%.c $(HEADERS) include/keylocker.h
 
 # make -O would hold the lines of a recipe back to its end, but not of one with +; that would be run with -n, -q and -t, too
 LETTERS = $(filter-out --%,$(firstword -$(MAKEFLAGS)))
-target/staticlib/lib%.a: $(SOURCES)
+
+# all that a library for C is proved and compiled from
+SOURCES = $(shell find $$(awk -v name=$1_c -f tools/below.awk crates.txt | sed 's|^|crates/|') -name out -prune -o \( -name '*.rt' -o -name '*.antt' \) -print)
+
+.SECONDEXPANSION:
+target/staticlib/lib%.a: crates.txt $$(call SOURCES,$$*)
 	@$(if $(strip $(foreach letter,n q t,$(findstring $(letter),$(LETTERS)))),,+)tools/prove.sh $*
 
 # proves the program, too; what it writes is printed once it has ended well, and rt says the rest where programs put their errors
