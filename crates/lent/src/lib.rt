@@ -1,5 +1,5 @@
 // A step with the machine by value, and on a lent machine: it is found advanced after the call, and as it was where that is refused; so is the CPU record.
-// The borrow checker covers no function over a reference to a struct, and none that lends one: `step_lent` and `step_through` are thin and proved by hand.
+// `step_lent` and `step_through` are thin over the by-value step of crate `step`.
 #![tactic(auto)]
 
 ghost use Rattle.std.specs.Prelude.{◌≡◌};

@@ -1,5 +1,4 @@
-// A reader of instruction strings. The borrow checker covers no function over a struct that holds a reference: `start`, `read` and
-// `decode` are thin and proved by hand, and `decoder` does the work.
+// A reader of instruction strings, which remembers its place: `start`, `read` and `decode` are thin, and `decoder` does the work.
 #![tactic(auto)]
 
 ghost use Rattle.std.specs.Prelude.{◌≡◌};
@@ -45,7 +44,7 @@ pub fn read<'s, 'a>(r: &'s mut Reader<'a>) -> Decoded
     d
 }
 
-// The instruction that a string begins with. Callers need no walk by hand.
+// The instruction that a string begins with.
 pub fn decode(s: &[u8]) -> Decoded
     ensures { result ≡ isa.decode s.now }
 {
