@@ -1,6 +1,6 @@
 pub mod Words
 pub mod Xtime
 pub mod Staggered
-pub mod Schedule
+pub mod KeySchedule
 pub mod Rounds
 pub mod Tables

@@ -5,6 +5,7 @@ use mathlib.Core.List.{List, [], ◌∷◌, ◌++◌}
 use Prim.Native.Nat.{ℕ, ◌+◌, ◌*◌, ◌/◌, ◌%◌, ◌^◌, ◌<◌}
 use native.Mathlib.Omega.{arith}
 use lib.Arith.{digits_div, digits_mod}
+use lib.Bits.{bit_or, or_shifted_r}
 use lib.ListN.{get_or}
 use Rattle.bits.specs.Words.{le_bytes}
 use Rattle.bits.proofs.Lists.{list4}
@@ -24,7 +25,7 @@ pub is_bytes : {w a b c d : ℕ} → Is w a b c d → le_bytes 4 w ≡ a ∷ b �
 is_bytes p = list4 (omega arith) (omega arith) (omega arith) (omega arith)
 
 -- a word turned right by a byte
-pub turned : (v w : ℕ) → w < 2 ^ 32 → v ≡ w / 2 ^ 8 + w * 2 ^ 24 % 2 ^ 32 → le_bytes 4 v ≡ rot_word (le_bytes 4 w)
+pub turned : (v w : ℕ) → w < 2 ^ 32 → v ≡ bit_or (w / 2 ^ 8) (w * 2 ^ 24 % 2 ^ 32) → le_bytes 4 v ≡ rot_word (le_bytes 4 w)
 unfolding rot_word
 turned v w h e =
     let hi = w / 256 in
@@ -32,7 +33,7 @@ turned v w h e =
     let s : w ≡ hi * 2 ^ 8 + lo = omega arith in
     let m : (hi * 2 ^ 8 + lo) * 2 ^ 24 ≡ hi * 2 ^ 32 + lo * 2 ^ 24 = omega arith in
     let f : w * 2 ^ 24 % 2 ^ 32 ≡ lo * 2 ^ 24 = ap (λ (x : ℕ). x * 2 ^ 24 % 2 ^ 32) s ∙ ap (λ (x : ℕ). x % 2 ^ 32) m ∙ digits_mod hi (omega arith) in
-    let g : v ≡ hi + lo * 2 ^ 24 = e ∙ ap (λ (x : ℕ). w / 2 ^ 8 + x) f in
+    let g : v ≡ lo * 2 ^ 24 + hi = e ∙ ap (bit_or hi) f ∙ or_shifted_r lo 24 hi (omega arith) in
     is_bytes {d = lo} (record { value = omega arith; b0 = omega arith; b1 = omega arith; b2 = omega arith; b3 = omega arith })
 
 -- eight bytes are two words

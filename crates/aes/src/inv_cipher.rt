@@ -1,14 +1,13 @@
-// What InvCipher, of FIPS 197 section 5.3, has beside InvMixColumns.
+// The last round of InvCipher, of FIPS 197 section 5.3.
 ghost use Rattle.std.specs.Prelude.{◌≡◌};
 ghost use Rattle.fips197.specs.InvCipher.{inv_shift_rows};
 ghost use Rattle.aes.specs.Meaning.{bytes_of};
 ghost use Rattle.aes.specs.Tables.{table_sub_bytes, table_inv_final_round};
 
 use crate::Block;
-use crate::cipher::add_round_key;
 use crate::word::sub_diagonal;
 
-// InvShiftRows, then InvSubBytes: each byte is looked up at the place from which it moves.
+// InvShiftRows, then InvSubBytes: each byte is looked up at the place from which it moves. Beside `sub_shift`, since FIPS 197 moves the rows the other way.
 #[tactic(auto, using(bits::proofs::Lists::four), unfolding(crate::specs::Tables::table_sub_bytes, fips197::specs::InvCipher::inv_shift_rows))]
 fn inv_shift_sub(inverse: &[u8; 256], s: Block) -> Block
     ensures { bytes_of result ≡ table_sub_bytes inverse.now (inv_shift_rows (bytes_of s)) }
@@ -25,5 +24,5 @@ fn inv_shift_sub(inverse: &[u8; 256], s: Block) -> Block
 pub fn inv_final_round(inverse: &[u8; 256], s: Block, k: Block) -> Block
     ensures { bytes_of result ≡ table_inv_final_round inverse.now (bytes_of s) (bytes_of k) }
 {
-    add_round_key(inv_shift_sub(inverse, s), k)
+    inv_shift_sub(inverse, s).xor(k)
 }

@@ -4,7 +4,7 @@ use mathlib.Core.Path.{◌≡◌, refl, sym, ap, ap₂, ◌∙◌}
 use mathlib.Core.List.{List, ◌++◌}
 use Prim.Native.Nat.{ℕ, zero, suc, ◌+◌, ◌-◌, ◌*◌, ◌≤◌, ◌<◌}
 use native.Mathlib.Omega.{arith}
-use lib.ListN.{length, take, drop, get_or}
+use lib.ListN.{take, drop, get_or}
 use lib.Seq.{get_or-drop}
 use Rattle.bits.specs.Blocks.{map_blocks}
 use Rattle.bits.specs.Bytes.{Bytes}
@@ -63,10 +63,6 @@ module _ (t f : List ℕ) where
       ap (λ (m : ℕ). table_cipher t f (le_words 4 w) m b) e
       ∙ sym (cipher-take (4 * (4 * (nk size + 7))) (le_words 4 w) (nr size) b (omega arith))
       ∙ ap (λ (l : List ℕ). table_cipher t f l (nr size) b) (sym (words_take 4 (4 * (nk size + 7)) w))
-
-  pub cipher-length : (w : List ℕ) (n : ℕ) (b : List ℕ) → length (table_cipher t f w n b) ≡ 16
-  unfolding table_cipher table_final_round add_round_key
-  cipher-length w n b = refl
 
 -- ---- with the right tables
 

@@ -1,6 +1,7 @@
 -- The cipher of FIPS 197 by lent tables, whatever they hold: t of 256 words, in the place of SubBytes and MixColumns, and f of 256 bytes, in the S-box's.
 -- Assumes nothing.
-use Rattle.std.specs.Prelude.{List, ℕ, zero, suc, ◌+◌, ◌-◌, get_or}
+use Rattle.std.specs.Prelude.{◌≡◌, List, ℕ, zero, suc, ◌+◌, ◌-◌, length, get_or}
+use mathlib.Core.Path.{refl}
 use Rattle.bits.specs.Words.{le_bytes}
 use Rattle.fips197.specs.State.{at, word, state}
 use Rattle.fips197.specs.Cipher.{shift_rows, add_round_key}
@@ -32,3 +33,8 @@ table_rounds t w (suc n) s = table_round t (table_rounds t w n s) (round_key w (
 -- 5.1, figure 5: the cipher of nr rounds under the key schedule w
 unfoldable pub table_cipher : List ℕ → List ℕ → List ℕ → ℕ → List ℕ → List ℕ
 table_cipher t f w nr s = table_final_round f (table_rounds t w (nr - 1) (add_round_key s (round_key w 0))) (round_key w nr)
+
+-- it makes a block
+pub cipher-length : (t f w : List ℕ) (n : ℕ) (b : List ℕ) → length (table_cipher t f w n b) ≡ 16
+unfolding table_cipher table_final_round add_round_key
+cipher-length t f w n b = refl

@@ -12,118 +12,122 @@ ghost use Rattle.aes.specs.Meaning.{bytes_of, key_bytes, schedule, stored_schedu
 ghost use Rattle.sp800_38a.specs.Counter.{ctr};
 ghost use Rattle.aes_c.specs.Size.{size_of};
 
-use aes::word::{from_bytes, key_from_bytes, to_bytes};
-use aes::{Block, Key};
-use aes_blocks::tables::mix_table;
-use aes_blocks::{encrypt_block_with, encrypt_blocks_with};
-use aes_inv_blocks::{decrypt_block_with, decrypt_blocks_with};
-use aes_key::expand_with;
+use aes::{Block, Key, Schedule};
+use aes_blocks::AesTables;
+use aes_key::expand;
 use ctr::mask;
 use fips197::KeySize;
-use sbox::sbox_table;
+use sbox::Sbox;
 
+// Not a `From`: KeySize is another crate's, which knows nothing of the sizes of C callers.
 pub fn key_size(size: u8) -> KeySize
     ensures { result ≡ size_of size }
 {
     if size == 0 {
-        return KeySize::Aes128;
+        KeySize::Aes128
+    } else {
+        KeySize::Aes256
     }
-    KeySize::Aes256
 }
 
-pub fn key_expansion(size: KeySize, key: Key) -> [u32; 60]
-    ensures { le_words 4 result ≡ stored_schedule size (key_bytes size key) }
+pub fn key_expansion(size: KeySize, key: &Key) -> Schedule
+    ensures size { result.size ≡ size }
+    ensures words { le_words 4 result.words ≡ stored_schedule size (key_bytes size key.now) }
 {
-    let sbox = sbox_table();
-    expand_with(&sbox, size, key)
+    let mut w = Schedule::new(size);
+    expand(&Sbox::new(), key, &mut w);
+    w
 }
 
-#[tactic(auto, using(aes_blocks::proofs::Columns::boxed, aes_blocks::proofs::TableCipher::block_by))]
-pub fn encrypt_block(size: KeySize, w: &[u32; 60], b: Block) -> Block
-    ensures { bytes_of result ≡ cipher (schedule size w.now) (nr size) (bytes_of b) }
+pub fn encrypt_block(w: &Schedule, b: Block) -> Block
+    ensures { bytes_of result ≡ cipher (schedule w.now.size w.now.words) (nr w.now.size) (bytes_of b) }
 {
-    let sbox = sbox_table();
-    let mut mixed = [0u32; 256];
-    mix_table(&sbox, &mut mixed);
-    encrypt_block_with(&mixed, &sbox, size, w, b)
+    let sbox = Sbox::new();
+    let mut room = [0; 256];
+    aes_blocks::encrypt_block(&AesTables::new(&sbox, &mut room), w, b)
 }
 
-// Every whole block of the bytes; what is left at the end stays.
-#[tactic(auto, using(aes_blocks::proofs::Columns::boxed, aes_blocks::proofs::TableCipher::blocks_by))]
-pub fn encrypt_blocks(size: KeySize, w: &[u32; 60], bytes: &mut [u8])
-    ensures { bytes.new ≡ map_blocks (cipher (schedule size w.now) (nr size)) (length bytes.old / 16) bytes.old }
+/// Every whole block of the bytes; what is left at the end stays.
+pub fn encrypt_blocks(w: &Schedule, bytes: &mut [u8])
+    ensures { bytes.new ≡ map_blocks (cipher (schedule w.now.size w.now.words) (nr w.now.size)) (length bytes.old / 16) bytes.old }
 {
-    let sbox = sbox_table();
-    let mut mixed = [0u32; 256];
-    mix_table(&sbox, &mut mixed);
-    encrypt_blocks_with(&mixed, &sbox, size, w, bytes);
+    let sbox = Sbox::new();
+    let mut room = [0; 256];
+    aes_blocks::encrypt_blocks(&AesTables::new(&sbox, &mut room), w, bytes);
 }
 
-pub fn decrypt_block(size: KeySize, w: &[u32; 60], b: Block) -> Block
-    ensures { bytes_of result ≡ inv_cipher (schedule size w.now) (nr size) (bytes_of b) }
+pub fn decrypt_block(w: &Schedule, b: Block) -> Block
+    ensures { bytes_of result ≡ inv_cipher (schedule w.now.size w.now.words) (nr w.now.size) (bytes_of b) }
 {
-    let sbox = sbox_table();
-    let mut products = [0u32; 256];
-    decrypt_block_with(&sbox, &mut products, size, w, b)
+    let sbox = Sbox::new();
+    let mut room = [0; 256];
+    aes_inv_blocks::decrypt_block(&sbox.table, &mut room, w, b)
 }
 
-pub fn decrypt_blocks(size: KeySize, w: &[u32; 60], bytes: &mut [u8])
-    ensures { bytes.new ≡ map_blocks (inv_cipher (schedule size w.now) (nr size)) (length bytes.old / 16) bytes.old }
+pub fn decrypt_blocks(w: &Schedule, bytes: &mut [u8])
+    ensures { bytes.new ≡ map_blocks (inv_cipher (schedule w.now.size w.now.words) (nr w.now.size)) (length bytes.old / 16) bytes.old }
 {
-    let sbox = sbox_table();
-    let mut mixed = [0u32; 256];
-    decrypt_blocks_with(&sbox, &mut mixed, size, w, bytes);
+    let sbox = Sbox::new();
+    let mut room = [0; 256];
+    aes_inv_blocks::decrypt_blocks(&sbox.table, &mut room, w, bytes);
 }
 
-// Counter mode from the counter block c on.
-#[tactic(auto, using(aes_blocks::proofs::Columns::boxed, ctr::proofs::Keyed::masked_by))]
-pub fn ctr_mask(wide: bool, size: KeySize, key: Key, c: Block, bytes: &mut [u8])
-    ensures { bytes.new ≡ ctr (encrypt (nk size) (key_bytes size key)) (bytes_of c) bytes.old }
+/// Counter mode from the counter block c on.
+pub fn ctr_mask(wide: bool, size: KeySize, key: &Key, c: Block, bytes: &mut [u8])
+    ensures { bytes.new ≡ ctr (encrypt (nk size) (key_bytes size key.now)) (bytes_of c) bytes.old }
 {
-    let sbox = sbox_table();
-    let mut mixed = [0u32; 256];
-    mix_table(&sbox, &mut mixed);
-    let w = expand_with(&sbox, size, key);
-    mask(wide, &mixed, &sbox, size, &w, c, bytes);
+    let sbox = Sbox::new();
+    let mut room = [0; 256];
+    let tables = AesTables::new(&sbox, &mut room);
+    let mut w = Schedule::new(size);
+    expand(&sbox, key, &mut w);
+    mask(wide, &tables.plain(), &w, c, bytes);
 }
 
 #[unsafe(no_mangle)]
 pub extern "C" fn aes_key_expansion(size: u8, key: &[u8; 32], w: &mut [u32; 60])
     ensures { le_words 4 w.new ≡ stored_schedule (size_of size) (take (4 * nk (size_of size)) key.now) }
 {
-    let k = *key;
-    let r = key_expansion(key_size(size), key_from_bytes(k));
-    *w = r;
+    let schedule = key_expansion(key_size(size), &Key::from(*key));
+    // A variable of its own: an array in a field is not stored straight (the borrow checker does not cover it).
+    let words = schedule.words;
+    *w = words;
+}
+
+// The words that a C caller lends, and the size of their key: copied, since C lends no schedule, and the ciphers are lent one.
+fn lent_schedule(size: u8, w: &[u32; 60]) -> Schedule
+    ensures { result ≡ record { words = w.now; size = size_of size } }
+{
+    Schedule {
+        words: *w,
+        size: key_size(size),
+    }
 }
 
 #[unsafe(no_mangle)]
 pub extern "C" fn aes_encrypt_block(size: u8, w: &[u32; 60], block: &mut [u8; 16])
     ensures { block.new ≡ cipher (schedule (size_of size) w.now) (nr (size_of size)) block.old }
 {
-    let b = *block;
-    let r = to_bytes(encrypt_block(key_size(size), w, from_bytes(b)));
-    *block = r;
+    *block = encrypt_block(&lent_schedule(size, w), Block::from(*block)).into();
 }
 
 #[unsafe(no_mangle)]
 pub extern "C" fn aes_decrypt_block(size: u8, w: &[u32; 60], block: &mut [u8; 16])
     ensures { block.new ≡ inv_cipher (schedule (size_of size) w.now) (nr (size_of size)) block.old }
 {
-    let b = *block;
-    let r = to_bytes(decrypt_block(key_size(size), w, from_bytes(b)));
-    *block = r;
+    *block = decrypt_block(&lent_schedule(size, w), Block::from(*block)).into();
 }
 
 #[unsafe(no_mangle)]
 pub extern "C" fn aes_encrypt_blocks(size: u8, w: &[u32; 60], bytes: &mut [u8])
     ensures { bytes.new ≡ map_blocks (cipher (schedule (size_of size) w.now) (nr (size_of size))) (length bytes.old / 16) bytes.old }
 {
-    encrypt_blocks(key_size(size), w, bytes);
+    encrypt_blocks(&lent_schedule(size, w), bytes);
 }
 
 #[unsafe(no_mangle)]
 pub extern "C" fn aes_decrypt_blocks(size: u8, w: &[u32; 60], bytes: &mut [u8])
     ensures { bytes.new ≡ map_blocks (inv_cipher (schedule (size_of size) w.now) (nr (size_of size))) (length bytes.old / 16) bytes.old }
 {
-    decrypt_blocks(key_size(size), w, bytes);
+    decrypt_blocks(&lent_schedule(size, w), bytes);
 }

@@ -14,7 +14,7 @@ use Rattle.fips197.specs.KeyExpansion.{word_at, round_key}
 use Rattle.fips197.proofs.Equivalent.{inv_round_lem}
 use Rattle.fips197.proofs.Schedule.{round_key_bytes}
 use Rattle.aes.specs.Columns.{mixed}
-use Rattle.aes.proofs.Schedule.{word_words}
+use Rattle.aes.proofs.KeySchedule.{word_words}
 use Rattle.aes_inv_blocks.specs.Tables.{InvMixed}
 
 module _ (w v : List ℕ) (m n : ℕ) (below : n < m) (rule : InvMixed w (4 * m) v) where

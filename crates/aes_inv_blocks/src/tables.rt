@@ -1,5 +1,5 @@
 // The table of InvCipher, and the products of the inverse matrix that it is built from, on the stack.
-ghost use Rattle.std.specs.Prelude.{◌≡◌, List, ℕ, ◌*◌, ◌^◌, ◌≤◌, length, get_or};
+ghost use Rattle.std.specs.Prelude.{◌≡◌, List, ℕ, ◌*◌, ◌^◌, ◌≤◌, get_or};
 ghost use Rattle.bits.specs.Words.{le_bytes};
 ghost use Rattle.fips197.specs.InvCipher.{inv_mix_row};
 ghost use Rattle.aes_blocks.specs.Tables.{part, MixTable};
@@ -11,23 +11,18 @@ use aes::mix::inv_mix_column;
 // Inlined, its products would be computed ahead and stored.
 #[inline(never)]
 fn double_products(products: &mut [u32; 256], k: usize, x: u32)
-    requires products_len { length products.old ≡ 256 }
-    requires k_bound { k ≤ 128 }
-    ensures products_len_2 { length products.new ≡ 256 }
-    ensures by_index { (q : List ℕ) (e : ℕ) → k ≡ 2 ^ e → le_bytes 4 x ≡ part q k 0 → Products q k products.old → Products q (2 * k) products.new }
+    requires { k ≤ 128 }
+    ensures { (q : List ℕ) (e : ℕ) → k ≡ 2 ^ e → le_bytes 4 x ≡ part q k 0 → Products q k products.old → Products q (2 * k) products.new }
 {
-    let mut i: usize = k;
-    while i < 2 * k {
-        let y = products[i - k] ^ x;
-        products[i] = y;
-        i += 1;
+    // By index: an entry is made of one that is written before it.
+    for i in k..2 * k {
+        products[i] = products[i - k] ^ x;
     }
 }
 
 // Column 0 of the inverse matrix, times each byte. The steps are written out: with numbers known, the compiler makes less of them.
 pub(crate) fn inv_products(products: &mut [u32; 256])
-    requires products_len { length products.old ≡ 256 }
-    requires products_value { get_or products.old 0 0 ≡ 0 }
+    requires { get_or products.old 0 0 ≡ 0 }
     ensures { Products inv_mix_row 256 products.new }
 {
     double_products(products, 1, inv_mix_column(1));
@@ -40,23 +35,14 @@ pub(crate) fn inv_products(products: &mut [u32; 256])
     double_products(products, 128, inv_mix_column(128));
 }
 
-fn product(products: &[u32; 256], s: u8) -> u32
-    ensures { (q : List ℕ) → Products q 256 products.now → le_bytes 4 result ≡ part q s 0 }
-{
-    products[s as usize]
-}
-
 // For any table of bytes. By products looked up, which takes less time here than making them.
 pub(crate) fn inv_mix_table(inverse: &[u8; 256], mixed: &mut [u32; 256])
-    requires { length mixed.old ≡ 256 }
     ensures { MixTable inv_mix_row (λ i. get_or inverse.now i 0) 256 mixed.new }
 {
     let mut products = [0u32; 256];
     inv_products(&mut products);
-    let mut i: usize = 0;
-    while i < 256 {
-        let x = product(&products, inverse[i]);
-        mixed[i] = x;
-        i += 1;
+    // By index: std says nothing of what `iter_mut().zip` leaves, and `iter_mut().enumerate()` would take `inverse` by the same index.
+    for i in 0..256usize {
+        mixed[i] = products[inverse[i] as usize];
     }
 }

@@ -24,7 +24,7 @@ use Rattle.fips197.specs.Sizes.{nk}
 use Rattle.fips197.specs.declared.KeySize.{KeySize}
 use Rattle.fips197.specs.declared.KeySize.TheVariants.{Aes128, Aes256}
 use Rattle.aes.specs.Meaning.{stored_schedule}
-use Rattle.aes.proofs.Schedule.{word_words}
+use Rattle.aes.proofs.KeySchedule.{word_words}
 
 -- the powers of x that ten round constants need, as the code shifts for them
 ten : List ℕ
@@ -44,11 +44,6 @@ power_low j h = sym (cond_on (lt-ltb j 8 h) _ _) ∙ powers j (omega arith)
 pub power_high : (j : ℕ) → 8 ≤ j → j < 10 → 27 * 2 ^ (j - 8) % 2 ^ 32 ≡ power j
 unfolding shifted
 power_high j h k = sym (cond_off (le-ltb j 8 h) _ _) ∙ powers j k
-
--- the round constants run from Rcon[1] to Rcon[10]
-pub constants : (size : KeySize) (i : ℕ) → nk size ≤ i → i < 11 * nk size → (1 ≤ i / nk size) × (i / nk size < 11)
-constants Aes128 i h k = (omega arith, omega arith)
-constants Aes256 i h k = (omega arith, omega arith)
 
 -- ---- the three ways to a word
 
@@ -108,9 +103,9 @@ expands n i key w x p q h inv e =
     ∙ ap₂ (λ (a b : List ℕ). a ++ b) inv (e ∙ next_local n i w p q ∙ ap (next_word n i) inv)
     ∙ sym (expanded_more n i key q)
 
-pub key_words_few : (size : KeySize) → (4 ≤ nk size) × (nk size ≤ 8)
-key_words_few Aes128 = (lit≤ tt, lit≤ tt)
-key_words_few Aes256 = (lit≤ tt, lit≤ tt)
+key_words_few : (size : KeySize) → nk size ≤ 8
+key_words_few Aes128 = lit≤ tt
+key_words_few Aes256 = lit≤ tt
 
 -- the key at the front of the array, as far as its size goes
 key_front : (n : ℕ) (w key : List ℕ) → n ≤ 8 → le_words 4 (take 8 w) ≡ key → le_words 4 (take n w) ≡ take (4 * n) key
@@ -122,14 +117,12 @@ zeros_left : (size : KeySize) (w : List ℕ) → drop 8 w ≡ replicate 52 0
 zeros_left Aes128 w e = ap (le_words 4) (sym (drop-drop 36 8 w) ∙ ap (drop 36) e)
 zeros_left Aes256 w e = ap (le_words 4) (sym (drop-drop 52 8 w) ∙ ap (drop 52) e)
 
--- all words of the array, once n of them are made of the first array's
-pub stored : (size : KeySize) (n : ℕ) (w w₀ key : List ℕ) → n ≡ 4 * (nk size + 7)
-    → le_words 4 (take n w) ≡ expanded (nk size) (le_words 4 (take (nk size) w₀)) (n - nk size) → drop n w ≡ drop n w₀
-    → le_words 4 (take 8 w₀) ≡ key → drop 8 w₀ ≡ replicate 52 0 → le_words 4 w ≡ stored_schedule size (take (4 * nk size) key)
-unfolding key_expansion
-stored size n w w₀ key e made same front zeros =
-    ap (le_words 4) (sym (take-append-drop n w))
-    ∙ words_append 4 (take n w) (drop n w)
-    ∙ ap₂ (λ (a b : List ℕ). a ++ b)
-    (made ∙ ap₂ (λ (k : List ℕ) (m : ℕ). expanded (nk size) k (m - nk size)) (key_front (nk size) w₀ key (key_words_few size).1 front) e)
-    (ap (le_words 4) (same ∙ ap (λ (m : ℕ). drop m w₀) e) ∙ zeros_left size w₀ zeros)
+-- all words of the array, once those of the schedule are made of the first array's
+pub stored : (size : KeySize) (w w₀ key : List ℕ) → le_words 4 (take (4 * (nk size + 7)) w) ≡ key_expansion (nk size) (le_words 4 (take (nk size) w₀))
+    → drop (4 * (nk size + 7)) w ≡ drop (4 * (nk size + 7)) w₀ → le_words 4 (take 8 w₀) ≡ key → drop 8 w₀ ≡ replicate 52 0
+    → le_words 4 w ≡ stored_schedule size (take (4 * nk size) key)
+stored size w w₀ key made same front zeros =
+    ap (le_words 4) (sym (take-append-drop (4 * (nk size + 7)) w))
+    ∙ words_append 4 (take (4 * (nk size + 7)) w) (drop (4 * (nk size + 7)) w)
+    ∙ ap₂ (λ (a b : List ℕ). a ++ b) (made ∙ ap (key_expansion (nk size)) (key_front (nk size) w₀ key (key_words_few size) front))
+    (ap (le_words 4) same ∙ zeros_left size w₀ zeros)

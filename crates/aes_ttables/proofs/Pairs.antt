@@ -5,13 +5,9 @@ use mathlib.Core.List.{List, ◌++◌}
 use Prim.Native.Nat.{ℕ, ◌+◌, ◌*◌, ◌≤◌}
 use native.Mathlib.Omega.{arith}
 use lib.ListN.{length, take, drop, length-append}
-use lib.Seq.{sets, sets-eq, length-sets, length-take-le, drop_at}
+use lib.Seq.{sets, sets-eq, length-take-le, drop_at}
 use Rattle.bits.specs.Blocks.{map_blocks}
 use Rattle.bits.proofs.Blocks.{map_blocks-length, map_blocks_stored}
-
--- two stores keep the length
-pub stored_length : (l v u : List ℕ) (i j : ℕ) {l' l'' : List ℕ} → l' ≡ sets l i v → l'' ≡ sets l' j u → length l'' ≡ length l
-stored_length l v u i j {l'} e p = ap length p ∙ length-sets l' j u ∙ ap length e ∙ length-sets l i v
 
 -- what stands behind a store stays
 behind : (l v : List ℕ) (at n : ℕ) → length v ≡ 16 → n ≡ at + 16 → n ≤ length l → drop n (sets l at v) ≡ drop n l

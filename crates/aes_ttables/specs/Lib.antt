@@ -1,1 +1,2 @@
 pub mod Turned
+pub mod Meaning

@@ -1,3 +1,4 @@
 pub mod Openings
+pub mod Ciphers
 pub mod Wide
 pub mod Registers

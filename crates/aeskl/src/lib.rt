@@ -3,28 +3,27 @@
 
 ghost use Rattle.std.specs.Prelude.{◌≡◌, [], ◌∷◌, ◌/◌, length};
 ghost use Rattle.bits.specs.Blocks.{map_blocks};
-ghost use Rattle.fips197.specs.Sbox.{SboxTable};
-ghost use Rattle.aes.specs.Meaning.{bytes_of, key_bytes};
-ghost use Rattle.aes_blocks.specs.Tables.{MixedTable};
-ghost use Rattle.handle.specs.Wrap.{unwrap_key};
-ghost use Rattle.keywrap.specs.Meaning.{opened, padded_key, handle_bytes};
-ghost use Rattle.model.specs.Cpu.{cpu_size, cpl};
+ghost use Rattle.fips197.specs.InvCipher.{inv_cipher};
+ghost use Rattle.fips197.specs.Sizes.{nr};
+ghost use Rattle.aes.specs.Meaning.{bytes_of, schedule};
+ghost use Rattle.keywrap.specs.Meaning.{handle_bytes};
+ghost use Rattle.model.specs.Cpu.{cpl};
 ghost use Rattle.model.specs.Instructions as instructions;
-ghost use Rattle.aeskl.specs.Meaning.{used_block, used_blocks, used_by};
+ghost use Rattle.aeskl.specs.Meaning.{used, used_by};
 
-use aes::word::{from_bytes, key_from_bytes};
-use aes::{Block, Key};
-use aes_blocks::{encrypt_block_with, encrypt_blocks_with};
-use aes_inv_blocks::{decrypt_block_with, decrypt_blocks_with};
-use aes_key::expand_with;
-use cpu::{put_xmm, put_zf, xmm};
+use aes::{Block, Schedule};
+use aes_blocks::{AesTables, encrypt_blocks};
+use aes_inv_blocks::{decrypt_block, decrypt_blocks};
+use aes_key::expand;
+use cpu::{Cpu, put_xmm, put_zf, xmm};
 use fips197::{Direction, KeySize};
-use keywrap::siv::unwrap_with;
-use keywrap::tables::cipher_tables;
-use keywrap::{Handle, Unwrapped};
+use keywrap::Handle;
+use keywrap::siv::unwrap;
 use model::IwKey;
+use sbox::Sbox;
 
-fn forbids(direction: Direction, restrictions: u32) -> bool
+// Each direction has a restriction bit of its own, so an arm for each.
+fn forbids(direction: Direction, restrictions: u128) -> bool
     ensures { result ≡ instructions.forbids direction restrictions }
 {
     match direction {
@@ -33,7 +32,9 @@ fn forbids(direction: Direction, restrictions: u32) -> bool
     }
 }
 
-fn type_of(size: KeySize) -> u32
+// The AAD's key type. `encodekey::aad_of` has the same two arms. Of the crates that both use, `model` has no code, `cpu` knows no handle, and `keywrap` does
+// not know the model, whose `type_of` this is; a crate for two arms is no plainer.
+fn type_of(size: KeySize) -> u128
     ensures { result ≡ instructions.type_of size }
 {
     match size {
@@ -42,199 +43,81 @@ fn type_of(size: KeySize) -> u32
     }
 }
 
-// Of the AAD's 128 bits all that may be set stand in its first word.
+/// A handle that is not unwrapped: a reserved bit of its AAD is set, its key type is another, or the AAD forbids this direction or a CPL above 0.
 pub fn illegal(cpl: u8, size: KeySize, direction: Direction, aad: Block) -> bool
     ensures { result ≡ instructions.illegal cpl size direction (bytes_of aad) }
 {
-    let w = aad.a;
-    let reserved = !(((w / 0x1000_0000 == 0) & ((aad.b == 0) & ((aad.c == 0) & (aad.d == 0))))
-        & (w / 8 % 0x20_0000 == 0));
+    let aad = u128::from(aad);
+    let reserved = aad >> 28 != 0 || (aad >> 3) % 0x20_0000 != 0;
+    let key_type = (aad >> 24) % 16;
+    let restrictions = aad % 8;
     reserved
-        | !(w / 0x100_0000 % 16 == type_of(size))
-        | ((w % 2 == 1) & (0 < cpl))
-        | forbids(direction, w % 8)
+        || key_type != type_of(size)
+        || restrictions % 2 == 1 && cpl > 0
+        || forbids(direction, restrictions)
 }
 
-// What the IWKey unwraps, by lent tables.
-pub fn unwrapped_by(
-    mixed: &[u32; 256],
-    sbox: &[u8; 256],
-    k: IwKey,
-    size: KeySize,
-    h: Handle,
-) -> Unwrapped
-    requires mixed_table { MixedTable mixed.now }
-    requires sbox_table { SboxTable sbox.now }
-    ensures { opened result ≡ padded_key (unwrap_key k.integrity k.encryption (handle_bytes size h)) }
+// One block by products, whose table is the sooner made; more by the table of inverse columns: for one block that is slower.
+fn decipher(sbox: &Sbox, room: &mut [u32; 256], w: &Schedule, blocks: &mut [u8])
+    ensures { blocks.new ≡ map_blocks (inv_cipher (schedule w.now.size w.now.words) (nr w.now.size)) (length blocks.old / 16) blocks.old }
 {
-    let integrity = k.integrity;
-    let encryption = k.encryption;
-    unwrap_with(
-        mixed,
-        sbox,
-        size,
-        from_bytes(integrity),
-        key_from_bytes(encryption),
-        h,
-    )
-}
-
-// ---- blocks, by lent tables; decryption makes its own in the place of the cipher's, which nothing needs after the unwrapping
-
-#[tactic(auto, using(aes::proofs::Schedule::schedule_stored, aes_blocks::proofs::TableCipher::block_by), unfolding(fips197::specs::Aes::encrypt, fips197::specs::Aes::decrypt))]
-fn cipher_block(
-    mixed: &mut [u32; 256],
-    sbox: &[u8; 256],
-    direction: Direction,
-    size: KeySize,
-    key: Key,
-    b: Block,
-) -> Block
-    requires mixed_table { MixedTable mixed.old }
-    requires sbox_table { SboxTable sbox.now }
-    ensures { bytes_of result ≡ instructions.aes direction size (key_bytes size key) (bytes_of b) }
-{
-    let w = expand_with(sbox, size, key);
-    match direction {
-        Direction::Encrypt => encrypt_block_with(mixed, sbox, size, &w, b),
-        Direction::Decrypt => decrypt_block_with(sbox, mixed, size, &w, b),
-    }
-}
-
-#[tactic(auto, using(aes::proofs::Schedule::schedule_stored, aes_blocks::proofs::TableCipher::blocks_by), unfolding(fips197::specs::Aes::encrypt, fips197::specs::Aes::decrypt))]
-fn cipher_blocks(
-    mixed: &mut [u32; 256],
-    sbox: &[u8; 256],
-    direction: Direction,
-    size: KeySize,
-    key: Key,
-    bytes: &mut [u8],
-)
-    requires mixed_table { MixedTable mixed.old }
-    requires sbox_table { SboxTable sbox.now }
-    ensures { bytes.new ≡ map_blocks (instructions.aes direction size (key_bytes size key)) (length bytes.old / 16) bytes.old }
-{
-    let w = expand_with(sbox, size, key);
-    match direction {
-        Direction::Encrypt => encrypt_blocks_with(mixed, sbox, size, &w, bytes),
-        Direction::Decrypt => decrypt_blocks_with(sbox, mixed, size, &w, bytes),
-    }
-}
-
-// ---- a use, over its blocks by value
-
-// A block after a use, and ZF.
-#[derive(Clone, Copy)]
-pub(crate) struct UsedBlock {
-    pub zf: bool,
-    pub block: Block,
-}
-
-// XMM0 to XMM7 after a use, and ZF.
-#[derive(Clone, Copy)]
-pub(crate) struct UsedBlocks {
-    pub zf: bool,
-    pub blocks: [u8; 128],
-}
-
-// An illegal handle is not unwrapped, and no table is made for it.
-fn used_block(
-    direction: Direction,
-    size: KeySize,
-    cpl: u8,
-    k: IwKey,
-    h: Handle,
-    block: Block,
-) -> UsedBlock
-    ensures { used_block result ≡ used_by (instructions.aes direction size) (instructions.opened_for k cpl size direction (handle_bytes size h)) (bytes_of block) }
-{
-    if illegal(cpl, size, direction, h.aad) {
-        UsedBlock { zf: true, block }
+    if let Some(block) = blocks.as_mut_array::<16>() {
+        *block = decrypt_block(&sbox.table, room, w, Block::from(*block)).into();
     } else {
-        let mut sbox = [0u8; 256];
-        let mut mixed = [0u32; 256];
-        cipher_tables(&mut mixed, &mut sbox);
-        let Unwrapped::Key(key) = unwrapped_by(&mixed, &sbox, k, size, h) else {
-            return UsedBlock { zf: true, block };
-        };
-        let ciphered = cipher_block(&mut mixed, &sbox, direction, size, key, block);
-        UsedBlock {
-            zf: false,
-            block: ciphered,
-        }
+        decrypt_blocks(&sbox.table, room, w, blocks);
     }
 }
 
-// An illegal handle returns at once: as a value of both branches the eight blocks would be on the stack once more.
-fn used_blocks(
+// A use over its blocks, in place, and ZF: only where unwrapping hands out a key are they touched. An illegal handle is not unwrapped, and no table is made for
+// it. Decryption makes its table in the room of the cipher's, which nothing needs after the unwrapping.
+fn use_blocks(
     direction: Direction,
     size: KeySize,
     cpl: u8,
-    k: IwKey,
-    h: Handle,
-    blocks: [u8; 128],
-) -> UsedBlocks
-    ensures { used_blocks result ≡ used_by (λ key. map_blocks (instructions.aes direction size key) 8) (instructions.opened_for k cpl size direction (handle_bytes size h)) blocks }
+    k: &IwKey,
+    h: &Handle,
+    blocks: &mut [u8],
+) -> bool
+    ensures { used result blocks.new ≡ used_by (λ key. map_blocks (instructions.aes direction size key) (length blocks.old / 16)) (instructions.opened_for k.now cpl size direction (handle_bytes size h.now)) blocks.old }
 {
     if illegal(cpl, size, direction, h.aad) {
-        return UsedBlocks { zf: true, blocks };
+        return true;
     }
-    let mut sbox = [0u8; 256];
-    let mut mixed = [0u32; 256];
-    cipher_tables(&mut mixed, &mut sbox);
-    let Unwrapped::Key(key) = unwrapped_by(&mixed, &sbox, k, size, h) else {
-        return UsedBlocks { zf: true, blocks };
+    let sbox = Sbox::new();
+    let mut room = [0; 256];
+    let tables = AesTables::new(&sbox, &mut room);
+    let Some(key) = unwrap(&tables, size, &k.integrity, &k.encryption, h) else {
+        // ZF is set, and the blocks go back as they came.
+        return true;
     };
-    let mut ciphered = blocks;
-    cipher_blocks(&mut mixed, &sbox, direction, size, key, &mut ciphered);
-    UsedBlocks {
-        zf: false,
-        blocks: ciphered,
+    let mut w = Schedule::new(size);
+    expand(&sbox, &key, &mut w);
+    // An arm for each direction: decryption makes a table of its own, in the room of the cipher's.
+    match direction {
+        Direction::Encrypt => encrypt_blocks(&tables, &w, blocks),
+        Direction::Decrypt => decipher(&sbox, &mut room, &w, blocks),
     }
+    false
 }
 
-// ---- a use, in the CPU record
+// IWKey, handle and record are lent each by itself, here and in the next, as machine, memory and C have them: a struct would be taken apart where it is made.
+// Direction and size come of `Use` and `WideUse`, two types.
 
-// AESENC128KL, AESDEC128KL, AESENC256KL, AESDEC256KL.
-pub fn use_single(direction: Direction, size: KeySize, n: u8, k: IwKey, h: Handle, cpu: &mut [u8])
-    requires { length cpu.old ≡ cpu_size }
-    ensures { cpu.new ≡ instructions.ciphered direction size (n ∷ []) (instructions.opened_for k (cpl cpu.old) size direction (handle_bytes size h)) cpu.old }
+/// AESENC128KL, AESDEC128KL, AESENC256KL, AESDEC256KL: on one register.
+pub fn use_single(direction: Direction, size: KeySize, n: u8, k: &IwKey, h: &Handle, cpu: &mut Cpu)
+    ensures { cpu.new ≡ instructions.ciphered direction size (n ∷ []) (instructions.opened_for k.now (cpl cpu.old) size direction (handle_bytes size h.now)) cpu.old }
 {
-    let used = used_block(direction, size, cpu::cpl(cpu), k, h, xmm(cpu, n));
-    let block = used.block;
-    put_xmm(cpu, n, block);
-    put_zf(cpu, used.zf);
+    let mut block: [u8; 16] = xmm(cpu, n).into();
+    let zf = use_blocks(direction, size, cpu::cpl(cpu), k, h, &mut block);
+    put_xmm(cpu, n, block.into());
+    put_zf(cpu, zf);
 }
 
-// Eight blocks, once their length is known.
-fn eight_blocks(s: &[u8]) -> [u8; 128]
-    requires { length s.now ≡ 128 }
-    ensures { result ≡ s.now }
+/// The wide forms, on XMM0 to XMM7: the first 128 bytes of the record.
+pub fn use_wide(direction: Direction, size: KeySize, k: &IwKey, h: &Handle, cpu: &mut Cpu)
+    ensures { cpu.new ≡ instructions.ciphered direction size (0 ∷ 1 ∷ 2 ∷ 3 ∷ 4 ∷ 5 ∷ 6 ∷ 7 ∷ []) (instructions.opened_for k.now (cpl cpu.old) size direction (handle_bytes size h.now)) cpu.old }
 {
-    let mut blocks = [0u8; 128];
-    for i in 0..128usize {
-        blocks[i] = s[i];
-    }
-    blocks
-}
-
-fn put_eight_blocks(s: &mut [u8], blocks: [u8; 128])
-    requires { length s.old ≡ 128 }
-    ensures { s.new ≡ blocks }
-{
-    for i in 0..128usize {
-        s[i] = blocks[i];
-    }
-}
-
-// The wide forms, on XMM0 to XMM7: the first 128 bytes of the record.
-pub fn use_wide(direction: Direction, size: KeySize, k: IwKey, h: Handle, cpu: &mut [u8])
-    requires { length cpu.old ≡ cpu_size }
-    ensures { cpu.new ≡ instructions.ciphered direction size (0 ∷ 1 ∷ 2 ∷ 3 ∷ 4 ∷ 5 ∷ 6 ∷ 7 ∷ []) (instructions.opened_for k (cpl cpu.old) size direction (handle_bytes size h)) cpu.old }
-{
-    let before = eight_blocks(&cpu[0..128]);
-    let used = used_blocks(direction, size, cpu::cpl(cpu), k, h, before);
-    let blocks = used.blocks;
-    put_eight_blocks(&mut cpu[0..128], blocks);
-    put_zf(cpu, used.zf);
+    let cpl = cpu::cpl(cpu);
+    let zf = use_blocks(direction, size, cpl, k, h, &mut cpu[..128]);
+    put_zf(cpu, zf);
 }

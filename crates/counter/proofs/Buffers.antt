@@ -6,7 +6,15 @@ use mathlib.Core.List.{List}
 use mathlib.Core.Option.{Option, none, some}
 use Prim.Native.Nat.{ℕ}
 use Rattle.fips197.specs.declared.Direction.TheVariants.{Encrypt}
+use Rattle.fips197.specs.Sbox.{SboxTable}
+use Rattle.fips197.specs.Sizes.{nr}
 use Rattle.fips197.specs.declared.KeySize.{KeySize}
+use Rattle.bits.specs.Words.{le_words}
+use Rattle.aes.specs.Meaning.{key_bytes, schedule, stored_schedule}
+use Rattle.aes.specs.declared.Key.{Key}
+use Rattle.aes_blocks.specs.Tables.{MixedTable}
+use Rattle.aes_blocks.specs.TableCipher.{table_cipher}
+use Rattle.ctr.proofs.Keyed.{masked_by}
 use Rattle.sp800_38a.specs.Counter.{ctr}
 use Rattle.model.specs.Calls.{CounterCall}
 use Rattle.model.specs.Counter.{size_of, counted_by, counted}
@@ -36,3 +44,10 @@ counted_as c k size h b l {u} es eh eb el e left =
     let to : KeySize → List ℕ → List ℕ → ℕ → Used = λ s i m n. used_by (λ key. ctr (aes Encrypt s key) m) (opened_for k n s Encrypt i) c.buffer in
     (λ j. record { cpu = left j; buffer = u.blocks })
     ∙ counted_left z (opened_for k (cpl c.cpu) z Encrypt c.handle) c (e ∙ (λ j. to (es j) (eh j) (eb j) (el j)))
+
+-- masked by tables that carry their rule, and the schedule of the key
+pub keyed : {m m' s s' : List ℕ} → m' ≡ m → s' ≡ s → MixedTable m → SboxTable s → {size size' : KeySize} → size' ≡ size → (key : Key) (w : List ℕ)
+    → le_words 4 w ≡ stored_schedule size (key_bytes size key) → (c b : List ℕ)
+    → ctr (table_cipher m' s' (schedule size' w) (nr size')) c b ≡ ctr (aes Encrypt size (key_bytes size key)) c b
+keyed {m} {m'} {s} {s'} p q rule box {size} {size'} r key w stored c b =
+    (λ j. ctr (table_cipher (p j) (q j) (schedule (r j) w) (nr (r j))) c b) ∙ masked_by m s rule box size key w stored c b

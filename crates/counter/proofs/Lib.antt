@@ -1,3 +1,3 @@
-pub mod Refusals
 pub mod Buffers
+pub mod Tests
 pub mod Calls

@@ -1,26 +1,32 @@
--- What a counter call leaves.
+-- What turns a counter call back past refusal 1, and what it leaves.
 -- Assumes nothing.
-use Rattle.std.specs.Prelude.{Bool, List, ℕ}
-use Rattle.aeskl.specs.Meaning.{Used}
+use Rattle.std.specs.Prelude.{not, List, ◌∷◌, ℕ, eqb, leb, length}
 use Rattle.model.specs.Calls as calls
+use Rattle.model.specs.Calls.{CounterCall}
+use Rattle.model.specs.Cpu.{cpu_size, control, bad_record}
+use Rattle.model.specs.Refusals.{View, Test, test, bad_size}
 use Rattle.model.specs.declared.Machine.{Machine}
-use Rattle.step.specs.Meaning.{answer_of}
-use Rattle.step.specs.declared.Answer.{Answer}
+use Rattle.refusals.specs.Parts.{single_tests}
 
--- ZF and the buffer, as a use's blocks
-abbrev pub used_buffer : Bool → List ℕ → Used
-used_buffer zf buffer = record { zf = zf; blocks = buffer }
+-- 18 stands directly behind 5, and 10 and 11 follow as for the single form
+abbrev pub counter_tests : View → CounterCall → List Test
+counter_tests v c =
+    test 3 (leb v.count c.processor)
+    ∷ test 4 (not (eqb (length c.cpu) cpu_size))
+    ∷ test 5 (bad_record c.cpu)
+    ∷ test 18 (bad_size c)
+    ∷ single_tests v.features (control c.cpu)
 
--- its answer, the machine, the CPU record and the buffer
+-- the number of its answer, the machine, the CPU record and the buffer
 pub record Left : Type 0 where
-  pub answer : Answer
+  pub number : ℕ
   pub machine : Machine
   pub cpu : List ℕ
   pub buffer : List ℕ
 
-abbrev pub left : Answer → Machine → List ℕ → List ℕ → Left
-left a m cpu buffer = record { answer = a; machine = m; cpu = cpu; buffer = buffer }
+abbrev pub left : ℕ → Machine → List ℕ → List ℕ → Left
+left number m cpu buffer = record { number = number; machine = m; cpu = cpu; buffer = buffer }
 
--- what the model's call leaves; the scope, "Turned back", has the numbers of the answers
+-- what the model's call leaves
 abbrev pub left_of : calls.Outcome → Left
-left_of o = left (answer_of o.answer.number) o.machine o.answer.cpu o.answer.buffer
+left_of o = left o.answer.number o.machine o.answer.cpu o.answer.buffer

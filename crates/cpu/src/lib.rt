@@ -1,18 +1,24 @@
-// The CPU record: what stands in its 408 bytes, read and written in place. Whoever lends a record has seen to its length (refusal 4).
+// The CPU record: what stands in its 408 bytes, read and written in place. Its length is in its type: who is lent bytes by C turns those of another length
+// back.
 #![tactic(auto)]
 
-ghost use Rattle.std.specs.Prelude.{◌≡◌, cond, ◌+◌, ◌%◌, ◌≤◌, length};
+ghost use Rattle.std.specs.Prelude.{◌≡◌, cond, ◌+◌, ◌%◌, ◌<◌, ◌≤◌};
 ghost use Rattle.std.proofs.lemmas.List.Edits.{sets};
 ghost use Rattle.bits.specs.Words.{le_bytes, le_value};
 ghost use Rattle.aes.specs.Meaning.{bytes_of};
 ghost use Rattle.model.specs.Numbers as numbers;
-ghost use Rattle.model.specs.Numbers.{clear_bit, part};
+ghost use Rattle.model.specs.Numbers.{clear_bit, part as part_of};
 ghost use Rattle.model.specs.Cpu as cpuRecord;
-ghost use Rattle.model.specs.Forms.{register_of};
+ghost use Rattle.model.specs.Forms.{key_source, no_backup_bit, register_of};
 
 use aes::Block;
-use aes::word::{block_at, put_block, put_word, word_at};
+use aes::word::{block_at, put_block};
 use isa::Operand;
+use parts::{part, put_part};
+
+/// The record's bytes. An alias and no struct with methods: C lends the record, which `as_array` and `as_mut_array` show as an array where it lies. A struct
+/// would hold a copy of it, or a `&mut` to it, and a read of the array through a `&self` of that is not proved.
+pub type Cpu = [u8; 408];
 
 // Where the fields of the record stand.
 const REGISTERS: usize = 16 * 16;
@@ -43,37 +49,31 @@ pub fn bit(i: u8, x: u8) -> bool
     (x >> (i % 8)) % 2 == 1
 }
 
-// ---- numbers of eight bytes
+// ---- numbers of eight bytes. Record and place stand side by side, as `parts` takes them: a slice from the place on would lose the length that the type says.
 
-#[tactic(auto, using(crate::proofs::Words::quad_value))]
-fn quad_at(s: &[u8], at: usize) -> u64
-    requires { at + 8 ≤ length s.now }
-    ensures { result ≡ le_value (part 8 at s.now) }
+fn number_at(cpu: &Cpu, at: usize) -> u64
+    requires { at + 8 ≤ 408 }
+    ensures { result ≡ le_value (part_of 8 at cpu.now) }
 {
-    let low = word_at(s, at) as u64;
-    let high = word_at(s, at + 4) as u64;
-    low + (high << 32)
+    u64::from_le_bytes(part(cpu, at))
 }
 
-fn put_quad(s: &mut [u8], at: usize, x: u64)
-    requires { at + 8 ≤ length s.old }
-    ensures { s.new ≡ sets s.old at (le_bytes 8 x) }
+fn put_number(cpu: &mut Cpu, at: usize, x: u64)
+    requires { at + 8 ≤ 408 }
+    ensures { cpu.new ≡ sets cpu.old at (le_bytes 8 x) }
 {
-    put_word(s, at, (x % 0x1_0000_0000) as u32);
-    put_word(s, at + 4, (x >> 32) as u32);
+    put_part(cpu, at, &x.to_le_bytes());
 }
 
 // ---- XMM registers
 
-pub fn xmm(cpu: &[u8], n: u8) -> Block
-    requires { length cpu.now ≡ cpuRecord.cpu_size }
+pub fn xmm(cpu: &Cpu, n: u8) -> Block
     ensures { bytes_of result ≡ cpuRecord.xmm n cpu.now }
 {
     block_at(cpu, 16 * (n % 16) as usize)
 }
 
-pub fn put_xmm(cpu: &mut [u8], n: u8, b: Block)
-    requires { length cpu.old ≡ cpuRecord.cpu_size }
+pub fn put_xmm(cpu: &mut Cpu, n: u8, b: Block)
     ensures { cpu.new ≡ cpuRecord.with_xmm n (bytes_of b) cpu.old }
 {
     put_block(cpu, 16 * (n % 16) as usize, b);
@@ -81,112 +81,113 @@ pub fn put_xmm(cpu: &mut [u8], n: u8, b: Block)
 
 // ---- general registers, RIP and RFLAGS
 
-pub fn register(cpu: &[u8], n: u8) -> u64
-    requires { length cpu.now ≡ cpuRecord.cpu_size }
+pub fn register(cpu: &Cpu, n: u8) -> u64
     ensures { result ≡ cpuRecord.register n cpu.now }
 {
-    quad_at(cpu, REGISTERS + 8 * (n % 16) as usize)
+    number_at(cpu, REGISTERS + 8 * (n % 16) as usize)
 }
 
-pub fn put_register(cpu: &mut [u8], n: u8, x: u64)
-    requires { length cpu.old ≡ cpuRecord.cpu_size }
+pub fn put_register(cpu: &mut Cpu, n: u8, x: u64)
     ensures { cpu.new ≡ cpuRecord.with_register n x cpu.old }
 {
-    put_quad(cpu, REGISTERS + 8 * (n % 16) as usize, x);
+    put_number(cpu, REGISTERS + 8 * (n % 16) as usize, x);
 }
 
-// The register that an operand names.
-pub fn register_of(o: Operand) -> u8
-    ensures { result ≡ register_of o }
+/// What LOADIWKEY takes its options from.
+pub fn eax(cpu: &Cpu) -> u32
+    ensures { result ≡ cpuRecord.eax cpu.now }
 {
-    match o {
-        Operand::Register(n) => n,
+    (register(cpu, 0) % 0x1_0000_0000) as u32
+}
+
+/// EAX bits 4:1.
+pub fn key_source(cpu: &Cpu) -> u8
+    ensures { result ≡ key_source cpu.now }
+{
+    (eax(cpu) / 2 % 16) as u8
+}
+
+/// EAX bit 0.
+pub fn no_backup(cpu: &Cpu) -> u8
+    ensures { result ≡ no_backup_bit cpu.now }
+{
+    (eax(cpu) % 2) as u8
+}
+
+/// The register that an operand names.
+pub fn register_of(operand: &Operand) -> u8
+    ensures { result ≡ register_of operand.now }
+{
+    match operand {
+        Operand::Register(n) => *n,
         Operand::Memory(_) => 0,
     }
 }
 
-pub fn rip(cpu: &[u8]) -> u64
-    requires { length cpu.now ≡ cpuRecord.cpu_size }
+pub fn rip(cpu: &Cpu) -> u64
     ensures { result ≡ cpuRecord.rip cpu.now }
 {
-    quad_at(cpu, RIP)
+    number_at(cpu, RIP)
 }
 
-pub fn put_rip(cpu: &mut [u8], x: u64)
-    requires { length cpu.old ≡ cpuRecord.cpu_size }
+pub fn put_rip(cpu: &mut Cpu, x: u64)
     ensures { cpu.new ≡ cpuRecord.with_rip x cpu.old }
 {
-    put_quad(cpu, RIP, x);
+    put_number(cpu, RIP, x);
 }
 
-// OF, SF and ZF cleared.
-fn clear_high(x: u64) -> u64
-    ensures { result ≡ clear_bit 6 (clear_bit 7 (clear_bit 11 x)) }
+// A bit of a number made 0.
+fn clear_bit(i: u32, x: u64) -> u64
+    requires { i < 64 }
+    ensures { result ≡ clear_bit i x }
 {
-    let a = x - x / 2048 % 2 * 2048;
-    let b = a - a / 128 % 2 * 128;
-    b - b / 64 % 2 * 64
+    x - (x >> i) % 2 * (1 << i)
 }
 
-// AF, PF and CF cleared.
-fn clear_low(x: u64) -> u64
-    ensures { result ≡ clear_bit 0 (clear_bit 2 (clear_bit 4 x)) }
-{
-    let a = x - x / 16 % 2 * 16;
-    let b = a - a / 4 % 2 * 4;
-    b - b % 2
-}
-
-// ZF as told, the other five flags 0.
+// ZF as told, the other five flags, CF, PF, AF, SF and OF, 0.
 fn flags(zf: bool, x: u64) -> u64
     ensures { result ≡ cpuRecord.flags (cond zf 1 0) x }
 {
-    let y = clear_low(clear_high(x));
-    if zf {
-        return y + 64;
-    }
-    y
+    let cleared = clear_bit(
+        0,
+        clear_bit(
+            2,
+            clear_bit(4, clear_bit(6, clear_bit(7, clear_bit(11, x)))),
+        ),
+    );
+    if zf { cleared + 64 } else { cleared }
 }
 
-pub fn put_zf(cpu: &mut [u8], zf: bool)
-    requires { length cpu.old ≡ cpuRecord.cpu_size }
+pub fn put_zf(cpu: &mut Cpu, zf: bool)
     ensures { cpu.new ≡ cpuRecord.with_zf (cond zf 1 0) cpu.old }
 {
-    let x = quad_at(cpu, RFLAGS);
-    put_quad(cpu, RFLAGS, flags(zf, x));
+    let x = number_at(cpu, RFLAGS);
+    put_number(cpu, RFLAGS, flags(zf, x));
 }
 
 // ---- CPL, control bits and the zero fields
 
-pub fn cpl(cpu: &[u8]) -> u8
-    requires { length cpu.now ≡ cpuRecord.cpu_size }
+pub fn cpl(cpu: &Cpu) -> u8
     ensures { result ≡ cpuRecord.cpl cpu.now }
 {
     cpu[CPL]
 }
 
-pub fn control(cpu: &[u8]) -> u8
-    requires { length cpu.now ≡ cpuRecord.cpu_size }
+pub fn control(cpu: &Cpu) -> u8
     ensures { result ≡ cpuRecord.control cpu.now }
 {
     cpu[CONTROL]
 }
 
-fn zero_field_set(cpu: &[u8]) -> bool
-    requires { length cpu.now ≡ cpuRecord.cpu_size }
+fn zero_field_set(cpu: &Cpu) -> bool
     ensures { result ≡ cpuRecord.zero_field_set cpu.now }
 {
-    (cpu[CONTROL] >= 16)
-        | !((cpu[ZEROS] == 0)
-            & ((cpu[ZEROS + 1] == 0)
-                & ((cpu[ZEROS + 2] == 0)
-                    & ((cpu[ZEROS + 3] == 0) & ((cpu[ZEROS + 4] == 0) & (cpu[ZEROS + 5] == 0))))))
+    cpu[CONTROL] >= 16 || part::<6>(cpu, ZEROS) != [0; 6]
 }
 
 // Refusal 5 of a record.
-pub fn bad_record(cpu: &[u8]) -> bool
-    requires { length cpu.now ≡ cpuRecord.cpu_size }
+pub fn bad_record(cpu: &Cpu) -> bool
     ensures { result ≡ cpuRecord.bad_record cpu.now }
 {
-    (3 < cpl(cpu)) | zero_field_set(cpu)
+    cpl(cpu) > 3 || zero_field_set(cpu)
 }

@@ -9,34 +9,37 @@ use cpu::{CR4_KL, bit};
 use cpuid_model::Leaf;
 use model::{BACKUP_REGISTERS, FIRMWARE_ENABLED, KEY_LOCKER, NO_BACKUP, RANDOM_SOURCE, WIDE_FORMS};
 
-// The value of a bit, or 0.
+// A leaf that tells nothing.
+const EMPTY: Leaf = Leaf {
+    eax: 0,
+    ebx: 0,
+    ecx: 0,
+    edx: 0,
+};
+
+// The value of a bit that is told, or 0: each bit has its own value, so no From<bool>.
 fn value_if(told: bool, value: u32) -> u32
     ensures value { result ≡ cond told value 0 }
-    ensures upper_bound { result ≤ value }
+    ensures at_most { result ≤ value }
 {
-    if told {
-        return value;
-    }
-    0
+    if told { value } else { 0 }
 }
 
 fn leaf_7(features: u8) -> Leaf
     ensures { result ≡ leaves.leaf7 features }
 {
     Leaf {
-        eax: 0,
-        ebx: 0,
         ecx: value_if(bit(KEY_LOCKER, features), 0x80_0000),
-        edx: 0,
+        ..EMPTY
     }
 }
 
-// With Key Locker, AESKLE is left to firmware and operating system.
+// With Key Locker. AESKLE is left to firmware and operating system.
 fn leaf_19(features: u8, control: u8) -> Leaf
     requires { key_locker features ≡ true }
     ensures { result ≡ leaves.leaf19 features control }
 {
-    let aeskle = value_if(bit(FIRMWARE_ENABLED, features) & bit(CR4_KL, control), 1);
+    let aeskle = value_if(bit(FIRMWARE_ENABLED, features) && bit(CR4_KL, control), 1);
     let wide_kl = value_if(bit(WIDE_FORMS, features), 4);
     let backup = value_if(bit(BACKUP_REGISTERS, features), 16);
     let no_backup = value_if(bit(NO_BACKUP, features), 1);
@@ -45,24 +48,18 @@ fn leaf_19(features: u8, control: u8) -> Leaf
         eax: 7,
         ebx: aeskle + wide_kl + backup,
         ecx: no_backup + random,
-        edx: 0,
+        ..EMPTY
     }
 }
 
+/// EAX to EDX as CPUID answers in them.
 #[tactic(auto, using(cpuid_model::proofs::Choices::cpuid_7, cpuid_model::proofs::Choices::cpuid_19, cpuid_model::proofs::Choices::cpuid_other))]
 pub fn registers(features: u8, control: u8, leaf: u32, subleaf: u32) -> Leaf
     ensures { result ≡ leaves.cpuid features control leaf subleaf }
 {
-    if (leaf == 7) & (subleaf == 0) {
-        return leaf_7(features);
-    }
-    if (leaf == 0x19) & bit(KEY_LOCKER, features) {
-        return leaf_19(features, control);
-    }
-    Leaf {
-        eax: 0,
-        ebx: 0,
-        ecx: 0,
-        edx: 0,
+    match (leaf, subleaf) {
+        (7, 0) => leaf_7(features),
+        (0x19, _) if bit(KEY_LOCKER, features) => leaf_19(features, control),
+        _ => EMPTY,
     }
 }

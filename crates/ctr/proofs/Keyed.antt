@@ -9,7 +9,7 @@ use Rattle.fips197.specs.Sizes.{nk, nr}
 use Rattle.fips197.specs.declared.KeySize.{KeySize}
 use Rattle.aes.specs.Meaning.{key_bytes, schedule, stored_schedule}
 use Rattle.aes.specs.declared.Key.{Key}
-use Rattle.aes.proofs.Schedule.{schedule_stored}
+use Rattle.aes.proofs.KeySchedule.{schedule_stored}
 use Rattle.aes_blocks.specs.Tables.{MixedTable}
 use Rattle.aes_blocks.specs.TableCipher.{table_cipher}
 use Rattle.aes_blocks.proofs.TableCipher.{schedule_by}

@@ -1,87 +1,53 @@
-// A line of hexadecimal digits, one character after the other.
-//
-// Only the first 32 characters of a line count: no instruction has more than 13 bytes, and bytes after an instruction are ignored. A line that has among
-// them another character than 0 to 9, a to f and A to F, or that ends with half a byte, is answered by "not hexadecimal".
-use crate::text::{print, print_decoded};
+// A line of hexadecimal digits, and the answer to it.
+use crate::text::Instruction;
+use arrayvec::ArrayVec;
 use reader::decode;
-use std::io;
-use std::io::Write;
+use refusal::Refusal;
+use std::fmt;
 
-#[derive(Clone, Copy)]
+/// The characters of a line that count, the first 32: no instruction has more than 13 bytes, and bytes after an instruction are ignored.
+#[derive(Drop)]
 pub struct Line {
-    pub bytes: [u8; 16],
-    pub digits: usize,
-    pub bad: bool,
+    characters: ArrayVec<u8, 32>,
 }
 
-pub fn empty() -> Line {
-    Line {
-        bytes: [0u8; 16],
-        digits: 0,
-        bad: false,
-    }
-}
-
-fn with_digit(line: Line, d: u8) -> Line {
-    let n = line.digits;
-    if n < 32 {
-        let mut bytes = line.bytes;
-        let at = n / 2;
-        bytes[at] = bytes[at] % 16 * 16 + d % 16;
-        return Line {
-            bytes,
-            digits: n + 1,
-            bad: line.bad,
-        };
-    }
-    line
-}
-
-fn with_other(line: Line) -> Line {
-    let bytes = line.bytes;
-    Line {
-        bytes,
-        digits: line.digits,
-        bad: line.bad | (line.digits < 32),
-    }
-}
-
-// The answer to a whole line.
-fn print_line(out: &mut impl Write, line: Line) -> io::Result<()> {
-    if line.bad | (line.digits % 2 == 1) {
-        return print(out, b"not hexadecimal\n");
-    }
-    let bytes = line.bytes;
-    let n = (line.digits / 2).min(bytes.len());
-    print_decoded(out, decode(&bytes[..n]))
-}
-
-// The line with one more character.
-fn with(out: &mut impl Write, line: Line, c: u8) -> io::Result<Line> {
-    match c {
-        b'0'..=b'9' => Ok(with_digit(line, c % 16)),
-        b'A'..=b'F' | b'a'..=b'f' => Ok(with_digit(line, c % 16 + 9)),
-        b'\n' => {
-            print_line(out, line)?;
-            Ok(empty())
+impl Line {
+    pub fn new() -> Line {
+        Line {
+            characters: ArrayVec::new(),
         }
-        _ => Ok(with_other(line)),
+    }
+
+    pub fn is_empty(&self) -> bool {
+        self.characters.is_empty()
+    }
+
+    /// One more character, which has no place in a full line.
+    pub fn push(&mut self, c: u8) {
+        if !self.characters.is_full() {
+            self.characters.push(c);
+        }
     }
 }
 
-// The line after some more characters; each line that ends among them is answered.
-pub fn through(out: &mut impl Write, line: Line, text: &[u8]) -> io::Result<Line> {
-    let mut l = line;
-    for c in text {
-        l = with(out, l, *c)?;
+/// What the line answers: its instruction, or why it holds none. A line that has another character than 0 to 9, a to f and A to F among those that count, or
+/// that ends with half a byte, is answered by "not hexadecimal".
+impl fmt::Display for Line {
+    fn fmt<W: fmt::Write>(&self, f: &mut fmt::Formatter<W>) -> fmt::Result {
+        let mut bytes = [0u8; 16];
+        let string = &mut bytes[..self.characters.len() / 2];
+        if hex::decode_to_slice(&self.characters[..], string).is_err() {
+            return f.write_str("not hexadecimal");
+        }
+        match decode(string) {
+            Ok(Some(found)) => {
+                if found.lock {
+                    f.write_str("lock ")?;
+                }
+                write!(f, "{} ; {} bytes", Instruction(found.what), found.bytes)
+            }
+            Ok(None) => f.write_str("idle ; 0 bytes"),
+            Err(why) => write!(f, "refused {}", Refusal::from(why).number()),
+        }
     }
-    Ok(l)
-}
-
-// The last line may lack its line end.
-pub fn end(out: &mut impl Write, line: Line) -> io::Result<()> {
-    if (line.digits > 0) | line.bad {
-        print_line(out, line)?;
-    }
-    Ok(())
 }

@@ -1,247 +1,171 @@
 // Instructions as text, in Intel's syntax.
 use fips197::{Direction, KeySize};
-use isa::{
-    AddressSize, Base, Decoded, EncodeKey, Index, Instruction, LoadIwKey, MemoryPlace, Operand,
-    Use, WideUse,
-};
-use std::io;
-use std::io::Write;
-
-pub fn print(out: &mut impl Write, text: &[u8]) -> io::Result<()> {
-    out.write_all(text)
-}
+use isa::{AddressSize, Base, Index, MemoryPlace, Operand};
+use std::fmt;
 
 // ---- registers
 
-fn print_xmm(out: &mut impl Write, n: u8) -> io::Result<()> {
-    write!(out, "xmm{n}")
+/// The kinds of registers, which differ in the names.
+#[derive(Clone, Copy)]
+enum Kind {
+    Xmm,
+    Bits64,
+    Bits32,
 }
+
+/// A register of a kind, by its number.
+#[derive(Clone, Copy)]
+struct Register(Kind, u8);
 
 // What the names of the first eight general registers end in.
-fn print_ending(out: &mut impl Write, n: u8) -> io::Result<()> {
-    match n {
-        0 => print(out, b"ax"),
-        1 => print(out, b"cx"),
-        2 => print(out, b"dx"),
-        3 => print(out, b"bx"),
-        4 => print(out, b"sp"),
-        5 => print(out, b"bp"),
-        6 => print(out, b"si"),
-        _ => print(out, b"di"),
-    }
-}
+const ENDINGS: [&str; 8] = ["ax", "cx", "dx", "bx", "sp", "bp", "si", "di"];
 
-fn print_r64(out: &mut impl Write, n: u8) -> io::Result<()> {
-    if n < 8 {
-        print(out, b"r")?;
-        return print_ending(out, n);
+impl fmt::Display for Register {
+    fn fmt<W: fmt::Write>(&self, f: &mut fmt::Formatter<W>) -> fmt::Result {
+        match *self {
+            Register(Kind::Xmm, n) => write!(f, "xmm{n}"),
+            Register(Kind::Bits64, n @ 0..=7) => write!(f, "r{}", ENDINGS[n as usize]),
+            Register(Kind::Bits64, n) => write!(f, "r{n}"),
+            Register(Kind::Bits32, n @ 0..=7) => write!(f, "e{}", ENDINGS[n as usize]),
+            Register(Kind::Bits32, n) => write!(f, "r{n}d"),
+        }
     }
-    write!(out, "r{n}")
-}
-
-fn print_r32(out: &mut impl Write, n: u8) -> io::Result<()> {
-    if n < 8 {
-        print(out, b"e")?;
-        return print_ending(out, n);
-    }
-    write!(out, "r{n}d")
 }
 
 // ---- memory places: the parts that are there, with signs between them; 67 is told by 32-bit names
 
-fn is_32(size: AddressSize) -> bool {
-    match size {
-        AddressSize::Bits64 => false,
-        AddressSize::Bits32 => true,
-    }
-}
+/// A memory place.
+#[derive(Clone, Copy)]
+struct Place(MemoryPlace);
 
-fn print_general(out: &mut impl Write, n: u8, narrow: bool) -> io::Result<()> {
-    if narrow {
-        return print_r32(out, n);
-    }
-    print_r64(out, n)
-}
-
-fn print_ip(out: &mut impl Write, narrow: bool) -> io::Result<()> {
-    if narrow {
-        return print(out, b"eip");
-    }
-    print(out, b"rip")
-}
-
-// Answers whether there is a base.
-fn print_base(out: &mut impl Write, base: Base, narrow: bool) -> io::Result<bool> {
-    match base {
-        Base::None => Ok(false),
-        Base::Rip => {
-            print_ip(out, narrow)?;
-            Ok(true)
+impl fmt::Display for Place {
+    fn fmt<W: fmt::Write>(&self, f: &mut fmt::Formatter<W>) -> fmt::Result {
+        let MemoryPlace {
+            base,
+            index,
+            scale,
+            address_size,
+            displacement,
+        } = self.0;
+        let (kind, ip) = match address_size {
+            AddressSize::Bits64 => (Kind::Bits64, "rip"),
+            AddressSize::Bits32 => (Kind::Bits32, "eip"),
+        };
+        f.write_str("[")?;
+        match base {
+            Base::None => {}
+            Base::Rip => f.write_str(ip)?,
+            Base::Register(n) => write!(f, "{}", Register(kind, n))?,
         }
-        Base::Register(n) => {
-            print_general(out, n, narrow)?;
-            Ok(true)
-        }
-    }
-}
-
-fn print_scale(out: &mut impl Write, scale: u8) -> io::Result<()> {
-    match scale {
-        0 => print(out, b"*1"),
-        1 => print(out, b"*2"),
-        2 => print(out, b"*4"),
-        _ => print(out, b"*8"),
-    }
-}
-
-// Answers whether a part stands before the displacement.
-fn print_index(
-    out: &mut impl Write,
-    index: Index,
-    scale: u8,
-    based: bool,
-    narrow: bool,
-) -> io::Result<bool> {
-    match index {
-        Index::None => Ok(based),
-        Index::Register(n) => {
-            if based {
-                print(out, b"+")?;
+        if let Index::Register(n) = index {
+            if !matches!(base, Base::None) {
+                f.write_str("+")?;
             }
-            print_general(out, n, narrow)?;
-            print_scale(out, scale)?;
-            Ok(true)
+            write!(f, "{}*{}", Register(kind, n), 1u8 << scale.min(3))?;
+        }
+        if matches!((base, index), (Base::None, Index::None)) {
+            write!(f, "{}", Absolute(displacement, address_size))?;
+        } else {
+            write!(f, "{}", Displacement(displacement))?;
+        }
+        f.write_str("]")
+    }
+}
+
+/// A displacement behind registers. One of 0 is left out.
+#[derive(Clone, Copy)]
+struct Displacement(u64);
+
+impl fmt::Display for Displacement {
+    fn fmt<W: fmt::Write>(&self, f: &mut fmt::Formatter<W>) -> fmt::Result {
+        match self.0 {
+            0 => Ok(()),
+            d @ 0x8000_0000_0000_0000.. => write!(f, "-0x{:x}", d.wrapping_neg()),
+            d => write!(f, "+0x{d:x}"),
         }
     }
 }
 
-// A displacement of 0 is there only where nothing else is.
-fn print_displacement(out: &mut impl Write, d: u64, after: bool) -> io::Result<()> {
-    if d >= 0x8000_0000_0000_0000 {
-        return write!(out, "-0x{:x}", 0xFFFF_FFFF_FFFF_FFFF - d + 1);
-    }
-    if after {
-        if d == 0 {
-            return Ok(());
+/// A displacement without registers. With 67 it is the address itself; eiz is objdump's name for no register, and without it the place would look like one
+/// without 67.
+#[derive(Clone, Copy)]
+struct Absolute(u64, AddressSize);
+
+impl fmt::Display for Absolute {
+    fn fmt<W: fmt::Write>(&self, f: &mut fmt::Formatter<W>) -> fmt::Result {
+        match *self {
+            Absolute(d, AddressSize::Bits32) => write!(f, "eiz*1+0x{:x}", d % 0x1_0000_0000),
+            Absolute(d @ 0x8000_0000_0000_0000.., _) => write!(f, "{}", Displacement(d)),
+            Absolute(d, _) => write!(f, "0x{d:x}"),
         }
-        print(out, b"+")?;
-    }
-    write!(out, "0x{d:x}")
-}
-
-// With 67 and without registers: the address itself. eiz is objdump's name for no register; without it the place would look like one without 67.
-fn print_absolute(out: &mut impl Write, d: u64) -> io::Result<()> {
-    write!(out, "eiz*1+0x{:x}", d % 0x1_0000_0000)
-}
-
-fn print_memory(out: &mut impl Write, m: MemoryPlace) -> io::Result<()> {
-    let base = m.base;
-    let index = m.index;
-    let size = m.address_size;
-    let narrow = is_32(size);
-    print(out, b"[")?;
-    let based = print_base(out, base, narrow)?;
-    let after = print_index(out, index, m.scale, based, narrow)?;
-    if narrow & !after {
-        print_absolute(out, m.displacement)?;
-    } else {
-        print_displacement(out, m.displacement, after)?;
-    }
-    print(out, b"]")
-}
-
-fn print_xmm_operand(out: &mut impl Write, o: Operand) -> io::Result<()> {
-    match o {
-        Operand::Register(n) => print_xmm(out, n),
-        Operand::Memory(m) => print_memory(out, m),
-    }
-}
-
-fn print_r32_operand(out: &mut impl Write, o: Operand) -> io::Result<()> {
-    match o {
-        Operand::Register(n) => print_r32(out, n),
-        Operand::Memory(m) => print_memory(out, m),
     }
 }
 
 // ---- instructions
 
-fn print_direction(out: &mut impl Write, d: Direction) -> io::Result<()> {
-    match d {
-        Direction::Encrypt => print(out, b"aesenc"),
-        Direction::Decrypt => print(out, b"aesdec"),
-    }
-}
+/// An operand, whose registers are of a kind.
+#[derive(Clone, Copy)]
+struct Shown(Kind, Operand);
 
-fn print_size(out: &mut impl Write, size: KeySize) -> io::Result<()> {
-    match size {
-        KeySize::Aes128 => print(out, b"128"),
-        KeySize::Aes256 => print(out, b"256"),
-    }
-}
-
-fn print_use(out: &mut impl Write, u: Use) -> io::Result<()> {
-    let direction = u.direction;
-    let size = u.size;
-    let handle = u.handle;
-    print_direction(out, direction)?;
-    print_size(out, size)?;
-    print(out, b"kl ")?;
-    print_xmm(out, u.block)?;
-    print(out, b", ")?;
-    print_xmm_operand(out, handle)
-}
-
-fn print_wide_use(out: &mut impl Write, u: WideUse) -> io::Result<()> {
-    let direction = u.direction;
-    let size = u.size;
-    let handle = u.handle;
-    print_direction(out, direction)?;
-    print(out, b"wide")?;
-    print_size(out, size)?;
-    print(out, b"kl ")?;
-    print_xmm_operand(out, handle)
-}
-
-fn print_load_iwkey(out: &mut impl Write, l: LoadIwKey) -> io::Result<()> {
-    let src2 = l.src2;
-    print(out, b"loadiwkey ")?;
-    print_xmm(out, l.src1)?;
-    print(out, b", ")?;
-    print_xmm_operand(out, src2)
-}
-
-fn print_encode_key(out: &mut impl Write, e: EncodeKey) -> io::Result<()> {
-    let size = e.size;
-    let source = e.source;
-    print(out, b"encodekey")?;
-    print_size(out, size)?;
-    print(out, b" ")?;
-    print_r32(out, e.destination)?;
-    print(out, b", ")?;
-    print_r32_operand(out, source)
-}
-
-fn print_instruction(out: &mut impl Write, what: Instruction) -> io::Result<()> {
-    match what {
-        Instruction::Use(u) => print_use(out, u),
-        Instruction::WideUse(u) => print_wide_use(out, u),
-        Instruction::LoadIwKey(l) => print_load_iwkey(out, l),
-        Instruction::EncodeKey(e) => print_encode_key(out, e),
-    }
-}
-
-pub fn print_decoded(out: &mut impl Write, d: Decoded) -> io::Result<()> {
-    match d {
-        Decoded::Found { what, lock, next } => {
-            if lock {
-                print(out, b"lock ")?;
-            }
-            print_instruction(out, what)?;
-            writeln!(out, " ; {next} bytes")
+impl fmt::Display for Shown {
+    fn fmt<W: fmt::Write>(&self, f: &mut fmt::Formatter<W>) -> fmt::Result {
+        match self.1 {
+            Operand::Register(n) => write!(f, "{}", Register(self.0, n)),
+            Operand::Memory(place) => write!(f, "{}", Place(place)),
         }
-        Decoded::BadByte => print(out, b"refused 8\n"),
-        Decoded::EndOfString => print(out, b"refused 9\n"),
-        Decoded::Empty => print(out, b"idle ; 0 bytes\n"),
+    }
+}
+
+// This and the next are no Display: the enums are those of `fips197`, which knows nothing of mnemonics.
+fn cipher(direction: Direction) -> &'static str {
+    match direction {
+        Direction::Encrypt => "aesenc",
+        Direction::Decrypt => "aesdec",
+    }
+}
+
+fn bits(size: KeySize) -> usize {
+    32 * size.words()
+}
+
+/// An instruction's mnemonic and operands.
+#[derive(Clone, Copy)]
+pub struct Instruction(pub isa::Instruction);
+
+impl fmt::Display for Instruction {
+    fn fmt<W: fmt::Write>(&self, f: &mut fmt::Formatter<W>) -> fmt::Result {
+        match self.0 {
+            isa::Instruction::Use(u) => {
+                let handle = Shown(Kind::Xmm, u.handle);
+                write!(
+                    f,
+                    "{}{}kl {}, {handle}",
+                    cipher(u.direction),
+                    bits(u.size),
+                    Register(Kind::Xmm, u.block)
+                )
+            }
+            isa::Instruction::WideUse(u) => {
+                let handle = Shown(Kind::Xmm, u.handle);
+                write!(f, "{}wide{}kl {handle}", cipher(u.direction), bits(u.size))
+            }
+            isa::Instruction::LoadIwKey(l) => {
+                write!(
+                    f,
+                    "loadiwkey {}, {}",
+                    Register(Kind::Xmm, l.src1),
+                    Shown(Kind::Xmm, l.src2)
+                )
+            }
+            isa::Instruction::EncodeKey(e) => {
+                let source = Shown(Kind::Bits32, e.source);
+                write!(
+                    f,
+                    "encodekey{} {}, {source}",
+                    bits(e.size),
+                    Register(Kind::Bits32, e.destination)
+                )
+            }
+        }
     }
 }

@@ -1,126 +1,133 @@
 // One instruction, over one IWKey, the CPU record, memory and random data.
 #![tactic(auto)]
 
-ghost use Rattle.std.specs.Prelude.{◌≡◌, ℕ, ◌+◌, ◌≤◌, Bool, [], length};
+ghost use Rattle.std.specs.Prelude.{◌≡◌, ℕ, ◌+◌, ◌*◌, ◌≤◌, Bool, [], length};
+ghost use Rattle.fips197.specs.Sizes.{nk};
+ghost use Rattle.aes.specs.Meaning.{key_bytes};
 ghost use Rattle.isa.specs.Ranges.{handle_length};
 ghost use Rattle.isa.specs.declared.Decoded.TheVariants as decoded;
 ghost use Rattle.keywrap.specs.Meaning.{handle_bytes};
 ghost use Rattle.model.specs.Numbers.{part};
-ghost use Rattle.model.specs.Cpu.{cpu_size};
 ghost use Rattle.model.specs.Forms as forms;
 ghost use Rattle.model.specs.Instructions as instructions;
 ghost use Rattle.loadiwkey.specs.Meaning.{random_data, executed};
 ghost use Rattle.instructions.specs.Meaning.{PlacedAt, Within};
 
-use aes::Key;
 use aes::word::block_at;
+use aes::{Block, Key};
 use aeskl::{use_single, use_wide};
-use cpu::{put_rip, rip};
+use cpu::{Cpu, put_rip, rip};
 use encodekey::encode;
 use fips197::KeySize;
-use isa::{EncodeKey, Instruction, Use, WideUse};
+use isa::{Instruction, Use, WideUse};
 use keywrap::Handle;
-use loadiwkey::{Random, load};
+use loadiwkey::load;
 use model::IwKey;
-use std::num::wrapping_add_u64;
 
-// The handle at a place of bytes, as of memory; for 128 bits the high half of the ciphertext is not read.
-pub fn handle_at(memory: &[u8], at: usize, size: KeySize) -> Handle
-    requires { at + handle_length size ≤ length memory.now }
-    ensures { handle_bytes size result ≡ part (handle_length size) at memory.now }
+// The key at a place of bytes; of 128 bits there is no high half to read. Bytes and a place, here and in the next, as the model's `part` has them: of a slice
+// from the place on each part would again be at a place.
+fn key_at(memory: &[u8], at: usize, size: KeySize) -> Key
+    requires { at + 4 * nk size ≤ length memory.now }
+    ensures { key_bytes size result ≡ part (4 * nk size) at memory.now }
 {
-    let aad = block_at(memory, at);
-    let tag = block_at(memory, at + 16);
-    let low = block_at(memory, at + 32);
+    let low = block_at(memory, at);
     match size {
-        KeySize::Aes128 => Handle {
-            aad,
-            tag,
-            ciphertext: Key { low, high: low },
+        KeySize::Aes128 => Key {
+            low,
+            high: Block::ZERO,
         },
-        KeySize::Aes256 => Handle {
-            aad,
-            tag,
-            ciphertext: Key {
-                low,
-                high: block_at(memory, at + 48),
-            },
+        KeySize::Aes256 => Key {
+            low,
+            high: block_at(memory, at + 16),
         },
     }
 }
 
+/// The handle at a place of bytes, as of memory.
+pub fn handle_at(memory: &[u8], at: usize, size: KeySize) -> Handle
+    requires { at + handle_length size ≤ length memory.now }
+    ensures { handle_bytes size result ≡ part (handle_length size) at memory.now }
+{
+    Handle {
+        aad: block_at(memory, at),
+        tag: block_at(memory, at + 16),
+        ciphertext: key_at(memory, at + 32, size),
+    }
+}
+
 // RIP moves past the instruction, modulo 2^64.
-fn advance(cpu: &mut [u8], bytes: u64)
-    requires { length cpu.old ≡ cpu_size }
+fn advance(cpu: &mut Cpu, bytes: u64)
     ensures { cpu.new ≡ instructions.advanced bytes cpu.old }
 {
-    let next = wrapping_add_u64(rip(cpu), bytes);
+    let next = rip(cpu).wrapping_add(bytes);
     put_rip(cpu, next);
 }
 
 // ---- the instructions
 
-// The four forms on one block.
-fn single(u: Use, at: u64, memory: &[u8], k: IwKey, cpu: &mut [u8])
-    requires cpu_len { length cpu.old ≡ cpu_size }
-    requires size_in_bounds { at + handle_length u.size ≤ length memory.now }
-    ensures { (bytes : ℕ) → at ≡ (forms.handle_address cpu.old bytes u.handle).linear → cpu.new ≡ instructions.used memory.now bytes (forms.single u) k cpu.old }
+// The four forms on one block. Two functions, since the definition of each form is its own: `forms::single`, `forms::wide`.
+fn single(u: &Use, at: u64, memory: &[u8], k: &IwKey, cpu: &mut Cpu)
+    requires { at + handle_length u.now.size ≤ length memory.now }
+    ensures { (bytes : ℕ) → at ≡ (forms.handle_address cpu.old bytes u.now.handle).linear → cpu.new ≡ instructions.used memory.now bytes (forms.single u.now) k.now cpu.old }
 {
-    let direction = u.direction;
-    let size = u.size;
-    let h = handle_at(memory, at as usize, size);
-    use_single(direction, size, u.block, k, h, cpu);
+    let h = handle_at(memory, at as usize, u.size);
+    use_single(u.direction, u.size, u.block, k, &h, cpu);
 }
 
 // The four wide forms.
-fn wide(u: WideUse, at: u64, memory: &[u8], k: IwKey, cpu: &mut [u8])
-    requires cpu_len { length cpu.old ≡ cpu_size }
-    requires size_in_bounds { at + handle_length u.size ≤ length memory.now }
-    ensures { (bytes : ℕ) → at ≡ (forms.handle_address cpu.old bytes u.handle).linear → cpu.new ≡ instructions.used memory.now bytes (forms.wide u) k cpu.old }
+fn wide(u: &WideUse, at: u64, memory: &[u8], k: &IwKey, cpu: &mut Cpu)
+    requires { at + handle_length u.now.size ≤ length memory.now }
+    ensures { (bytes : ℕ) → at ≡ (forms.handle_address cpu.old bytes u.now.handle).linear → cpu.new ≡ instructions.used memory.now bytes (forms.wide u.now) k.now cpu.old }
 {
-    let direction = u.direction;
-    let size = u.size;
-    let h = handle_at(memory, at as usize, size);
-    use_wide(direction, size, k, h, cpu);
+    let h = handle_at(memory, at as usize, u.size);
+    use_wide(u.direction, u.size, k, &h, cpu);
 }
 
 // What an instruction does but for RIP, and the IWKey after it.
-fn act(what: Instruction, at: u64, memory: &[u8], random: Random, k: IwKey, cpu: &mut [u8]) -> IwKey
-    requires cpu_len { length cpu.old ≡ cpu_size }
-    requires within { Within at (length memory.now) what }
-    ensures { (bytes : ℕ) → PlacedAt at bytes what cpu.old → executed result cpu.new ≡ instructions.execute memory.now (random_data random) what bytes k cpu.old }
+fn act(
+    what: &Instruction,
+    at: u64,
+    memory: &[u8],
+    random: Option<&[u8; 48]>,
+    k: &IwKey,
+    cpu: &mut Cpu,
+) -> IwKey
+    requires { Within at (length memory.now) what.now }
+    ensures { (bytes : ℕ) → PlacedAt at bytes what.now cpu.old → executed result cpu.new ≡ instructions.execute memory.now (random_data random.entry) what.now bytes k.now cpu.old }
 {
+    // By `match` and not by a trait over the four: uses are lent memory, a load random data, an encode neither.
     match what {
         Instruction::Use(u) => {
             single(u, at, memory, k, cpu);
-            k
+            *k
         }
         Instruction::WideUse(u) => {
             wide(u, at, memory, k, cpu);
-            k
+            *k
         }
         Instruction::LoadIwKey(l) => load(l, random, k, cpu),
         Instruction::EncodeKey(e) => {
             encode(e, k, cpu);
-            k
+            *k
         }
     }
 }
 
-// An instruction of so many bytes that no refusal stops, and the IWKey after it: a use's handle lies in memory at `at`, where its operand says.
+// What a step is lent goes on as C lends it, each part by itself: a struct would be taken apart where it is made.
+
+/// An instruction of so many bytes that no refusal stops, and the IWKey after it: a use's handle lies in memory at `at`, where its operand says.
 pub fn execute(
-    what: Instruction,
+    what: &Instruction,
     bytes: u64,
     at: u64,
     memory: &[u8],
-    random: Random,
-    k: IwKey,
-    cpu: &mut [u8],
+    random: Option<&[u8; 48]>,
+    k: &IwKey,
+    cpu: &mut Cpu,
 ) -> IwKey
-    requires cpu_len { length cpu.old ≡ cpu_size }
-    requires placed_at { PlacedAt at bytes what cpu.old }
-    requires within { Within at (length memory.now) what }
-    ensures { (lock : Bool) → executed result cpu.new ≡ instructions.stepped (record { processor = 0; cpu = cpu.old; memory = memory.now; random = random_data random; string = [] }) k (decoded.Found what lock bytes) }
+    requires placed_at { PlacedAt at bytes what.now cpu.old }
+    requires within { Within at (length memory.now) what.now }
+    ensures { (lock : Bool) → executed result cpu.new ≡ instructions.stepped (record { processor = 0; cpu = cpu.old; memory = memory.now; random = random_data random.entry; string = [] }) k.now (decoded.Found what.now lock bytes) }
 {
     let key = act(what, at, memory, random, k, cpu);
     advance(cpu, bytes);

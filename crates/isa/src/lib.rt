@@ -1,4 +1,4 @@
-// Key Locker instructions as they stand in a string, and their operands. Definitions and laws; the code is in `address`.
+// Key Locker instructions as they stand in a string, and their operands. Definitions and laws; the code is in `modrm`, `decoder`, `reader` and `address`.
 #![tactic(auto)]
 
 use fips197::{Direction, KeySize};
@@ -11,6 +11,7 @@ pub enum Base {
     Register(u8),
 }
 
+// The index, a register below 16. No Option<u8>: the definitions of specs/Decode.antt and specs/Address.antt speak of it.
 #[derive(Clone, Copy)]
 pub enum Index {
     None,
@@ -93,7 +94,7 @@ pub struct Address {
     pub segment: Segment,
 }
 
-// ---- reading
+// ---- reading. The definitions of specs/Decode.antt speak of these five, so they stay as they are; code answers with Result and Option.
 
 // What stands at a position, and the position behind it.
 #[derive(Clone, Copy)]

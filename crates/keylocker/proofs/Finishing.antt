@@ -1,6 +1,6 @@
 -- A call by value, through the layout, keeps its promise.
 -- Assumes nothing.
-use mathlib.Core.Path.{◌≡◌, ◌∙◌, refl, sym, ap, ap₂, subst}
+use mathlib.Core.Path.{◌≡◌, ◌∙◌, refl, sym, ap, ap₂}
 use mathlib.Core.Bool.{Bool, true, false, cond}
 use mathlib.Core.List.{List, []}
 use Prim.Native.Nat.{ℕ, ◌+◌, ◌*◌, ◌%◌, ◌<◌}
@@ -28,14 +28,14 @@ use Rattle.cpuid_model.specs.Calls as cpuid
 use Rattle.cpuid_model.specs.Calls.{CpuidCall, identify, identify_lent}
 use Rattle.cpuid_model.specs.declared.Leaf.{Leaf}
 use Rattle.cpuid_model.proofs.Calls.{lent_block}
-use Rattle.step.specs.Meaning.{number_of as number_in, answer_of, Left, left, left_of}
+use Rattle.cpuid_model.specs.Leaves.{zero_leaf}
+use Rattle.step.specs.Meaning.{Left, left, left_of}
 use Rattle.counter.specs.Meaning as counting
-use Rattle.machine.specs.Meaning.{outcome_of, identified_of}
-use Rattle.step.specs.declared.Answer.{Answer}
-use Rattle.step.specs.declared.Answer.TheVariants.{Done, Refused}
-use Rattle.machine.specs.declared.Outcome.{Outcome}
-use Rattle.machine.specs.declared.Identified as machineCall
-use Rattle.keylocker.specs.Meaning.{called, called_of, answered, finished, value_left, read_answered, identified}
+use Rattle.machine.specs.Meaning.{given}
+use Rattle.refusal.specs.Numbers.{number_of as number_in, answer_of}
+use Rattle.refusal.specs.declared.Refusal.{Refusal}
+use Rattle.std.specs.Prelude.{Result, Ok, Err}
+use Rattle.keylocker.specs.Meaning.{Called, called, called_of, finished}
 use Rattle.keylocker.specs.Promises.{answer, gave, PowerOnPromise, StepPromise, CounterPromise, ReadPromise}
 
 -- ---- what an answer can hold: a CPU record if the call is a step or a counter call, a buffer if it is a counter call, a value if it is a read
@@ -97,38 +97,57 @@ promised block after n cpu buffer v c e f b g =
 
 -- ---- calls that are lent the block alone
 
+-- no refusal has the number 0
+pub positive : (e : Refusal) → eqb (number_in e) 0 ≡ false
+positive e = grind arith
+
 -- the number 0 is done, and any other refused
-finished_of : (block : List ℕ) (o : calls.Outcome)
-    → finished block (outcome_of o) ≡ called o.answer.number (cond (eqb o.answer.number 0) (machine_bytes o.machine) block)
-finished_of block o = go (eqb o.answer.number 0) refl
-  where
-    go : (t : Bool) → eqb o.answer.number 0 ≡ t
-        → answered block o.machine (cond t Done (Refused o.answer.number))
-        ≡ called o.answer.number (cond t (machine_bytes o.machine) block)
-    go true e = λ j. called (sym (eqb-true o.answer.number 0 e) j) (machine_bytes o.machine)
-    go false e = refl
+abbrev finished_by : List ℕ → Machine → Bool → ℕ → Called
+finished_by block m t n = called n (cond t (machine_bytes m) block)
+
+finished_of : {A : Type 0} (block : List ℕ) (o : calls.Outcome) (m : Machine) (a : Result A Refusal) → answer_of a ≡ o.answer.number → m ≡ o.machine
+    → finished block m a ≡ finished_by block o.machine (eqb o.answer.number 0) o.answer.number
+finished_of block o m (Ok x) e f = ap₂ (λ (m : Machine) (n : ℕ). finished_by block m (eqb n 0) n) f e
+finished_of block o m (Err why) e f =
+    ap (λ (t : Bool). finished_by block m t (number_in why)) (sym (positive why)) ∙ ap₂ (λ (m : Machine) (n : ℕ). finished_by block m (eqb n 0) n) f e
 
 module _ (block : List ℕ) (c : Call) where
   short_called : (length block ≡ machine_size → ⊥) → called 1 block ≡ called_of (call_lent block c)
   unfolding call_lent
   short_called h = sym (ap called_of (cond_off (ne_eqb (length block) machine_size h) _ _))
 
-  -- a block of another length
-  pub short_block : (length block ≡ machine_size → ⊥)
-      → gave block 1 (cpu_of c (call_lent block c).answer.cpu) (buffer_of c (call_lent block c).answer.buffer) (value_of c (call_lent block c).answer.value)
-      ≡ call_lent block c
-  short_block h = promised block block 1 _ _ _ c (short_called h) refl refl refl
-
-  pub called_of_lem : (after : List ℕ) (n : ℕ) (m : Machine) (o : Outcome) → length block ≡ machine_size → m ≡ machine_at block → o ≡ outcome_of (call m c)
-      → called n after ≡ finished block o
+  called_of_lem : {A : Type 0} (after : List ℕ) (n : ℕ) (m left : Machine) (a : Result A Refusal) → length block ≡ machine_size → m ≡ machine_at block
+      → answer_of a ≡ (call m c).answer.number → left ≡ (call m c).machine → called n after ≡ finished block left a
       → gave after n (cpu_of c (call_lent block c).answer.cpu) (buffer_of c (call_lent block c).answer.buffer) (value_of c (call_lent block c).answer.value)
       ≡ call_lent block c
   unfolding call_lent
-  called_of_lem after n m o h r e f =
+  called_of_lem after n m left a h r e d f =
       promised block after n _ _ _ c
-      (f ∙ ap (finished block) (e ∙ ap (λ (x : Machine). outcome_of (call x c)) r) ∙ finished_of block (call (machine_at block) c)
+      (f ∙ finished_of block (call m c) left a e d
+      ∙ ap (λ (x : Machine). finished_by block (call x c).machine (eqb (call x c).answer.number 0) (call x c).answer.number) r
       ∙ sym (ap called_of (cond_on (eq-eqb (length block) machine_size h) _ _)))
       refl refl refl
+
+  -- a call that is passed on to the machine in the block: what P says of its answer and of the machine that it leaves has to be the model's
+  pub changed : {A : Type 0} (P : Machine → Result A Refusal → Type 0) (after : List ℕ) (n : ℕ)
+      → ((length block ≡ machine_size → ⊥) → called n after ≡ called 1 block)
+      → (length block ≡ machine_size → (m : Machine) × (a : Result A Refusal) × P m a × (called n after ≡ finished block m a))
+      → ((m : Machine) (a : Result A Refusal) → P m a → (answer_of a ≡ (call (machine_at block) c).answer.number) × (m ≡ (call (machine_at block) c).machine))
+      → gave after n (cpu_of c (call_lent block c).answer.cpu) (buffer_of c (call_lent block c).answer.buffer) (value_of c (call_lent block c).answer.value)
+      ≡ call_lent block c
+  changed P after n another done told = by (eqb (length block) machine_size) refl
+    where
+      by : (t : Bool) → eqb (length block) machine_size ≡ t
+          → gave after n (cpu_of c (call_lent block c).answer.cpu) (buffer_of c (call_lent block c).answer.buffer) (value_of c (call_lent block c).answer.value)
+          ≡ call_lent block c
+      by true e =
+          let h = eqb-true (length block) machine_size e in
+          let d = done h in
+          let t = told d.0 d.1 d.2 in
+          called_of_lem after n (machine_at block) d.0 d.1 h refl t.0 t.1 d.3
+      by false e =
+          let h = eqb-false (length block) machine_size e in
+          promised block after n _ _ _ c (another h ∙ short_called h) refl refl refl
 
 -- ---- power-on
 
@@ -150,12 +169,12 @@ module _ (block : List ℕ) (p : PowerOn) where
   power_on_short h =
       power_on_promised block 1 (sym (ap called_of (cond_off (ne_eqb (length block) machine_size h) (into block (power_on p)) (wrong_size block [] []))))
 
-  pub power_on-called : (after : List ℕ) (n : ℕ) (o : Outcome) → length block ≡ machine_size → o ≡ outcome_of (power_on p) → called n after ≡ finished block o
-      → PowerOnPromise block p after n
+  pub power_on-called : {A : Type 0} (after : List ℕ) (n : ℕ) (m : Machine) (a : Result A Refusal) → length block ≡ machine_size
+      → answer_of a ≡ (power_on p).answer.number → m ≡ (power_on p).machine → called n after ≡ finished block m a → PowerOnPromise block p after n
   unfolding power_on_lent
-  power_on-called after n o h e f =
+  power_on-called after n m a h e d f =
       power_on_promised after n
-      (f ∙ ap (finished block) e ∙ finished_of block (power_on p)
+      (f ∙ finished_of block (power_on p) m a e d
       ∙ sym (ap called_of (cond_on (eq-eqb (length block) machine_size h) (into block (power_on p)) (wrong_size block [] []))))
 
 -- ---- a read
@@ -193,34 +212,21 @@ module _ (block : List ℕ) (r : ReadCall) (old : ℕ) where
   pub read_short : (length block ≡ machine_size → ⊥) → ReadPromise block r old old 1
   read_short h = read_promised 1 old (λ j. (short_called block (read r) h j).number) (λ z. absurd (suc-ne-zero 0 z)) (λ n. refl)
 
-  pub read-called : (m : Machine) (o : Outcome) → length block ≡ machine_size → m ≡ machine_at block → o ≡ outcome_of (call m (read r))
-      → ReadPromise block r old (read_answered old o.value o.answer).value (read_answered old o.value o.answer).number
+  pub read-called : (m : Machine) (a : Result ℕ Refusal) → length block ≡ machine_size → m ≡ machine_at block → answer_of a ≡ (call m (read r)).answer.number
+      → given 0 a ≡ (call m (read r)).answer.value → ReadPromise block r old (given old a) (answer_of a)
   unfolding call_lent
-  read-called m o h w e =
-      subst (λ (x : Outcome). ReadPromise block r old (read_answered old x.value x.answer).value (read_answered old x.value x.answer).number)
-      (sym (e ∙ ap (λ (x : Machine). outcome_of (call x (read r))) w)) (go (eqb a.number 0) refl)
+  read-called m a h w e f = go a (e ∙ (λ j. (same j).number)) (f ∙ (λ j. (same j).value))
     where
-      a : calls.Answer
-      a = (call (machine_at block) (read r)).answer
+      same : (call m (read r)).answer ≡ given_answer
+      same =
+          ap (λ (x : Machine). (call x (read r)).answer) w
+          ∙ sym (ap (λ (x : Lent). x.answer) (cond_on (eq-eqb (length block) machine_size h) _ _))
 
-      same : a ≡ given_answer
-      same = sym (ap (λ (x : Lent). x.answer) (cond_on (eq-eqb (length block) machine_size h) _ _))
-
-      go : (t : Bool) → eqb a.number 0 ≡ t
-          → ReadPromise block r old (read_answered old a.value (cond t Done (Refused a.number))).value
-          (read_answered old a.value (cond t Done (Refused a.number))).number
-      go true q = read_promised 0 a.value (sym (eqb-true a.number 0 q) ∙ (λ j. (same j).number)) (λ z. λ j. (same j).value) (λ n. absurd (n refl))
-      go false q = read_promised a.number old (λ j. (same j).number) (λ z. absurd (eqb-false a.number 0 q z)) (λ n. refl)
+      go : (a : Result ℕ Refusal) → answer_of a ≡ given_answer.number → given 0 a ≡ given_answer.value → ReadPromise block r old (given old a) (answer_of a)
+      go (Ok v) e f = read_promised 0 v e (λ z. f) (λ n. absurd (n refl))
+      go (Err why) e f = read_promised (number_in why) old e (λ z. absurd (eqb-false (number_in why) 0 (positive why) z)) (λ n. refl)
 
 -- ---- a step
-
--- the number that an answer was made of
-number_in_lem : (n : ℕ) → number_in (answer_of n) ≡ n
-number_in_lem n = go (eqb n 0) refl
-  where
-    go : (t : Bool) → eqb n 0 ≡ t → number_in (cond t Done (Refused n)) ≡ n
-    go true e = sym (eqb-true n 0 e)
-    go false e = refl
 
 module _ (block : List ℕ) (s : StepCall) where
   pub step_short : (length block ≡ machine_size → ⊥) → StepPromise block s block s.cpu 1
@@ -229,27 +235,27 @@ module _ (block : List ℕ) (s : StepCall) where
       promised block block 1 s.cpu _ _ (step s) (short_called block (step s) h)
       (sym (ap (λ (x : Lent). x.answer.cpu) (cond_off (ne_eqb (length block) machine_size h) _ _))) refl refl
 
-  pub step-called : (after cpu : List ℕ) (r : ℕ) (m n : Machine) (a : Answer) → length block ≡ machine_size → m ≡ machine_at block
-      → left a n cpu ≡ left_of (call m (step s)) → called r after ≡ answered block n a → StepPromise block s after cpu r
+  pub step-called : {A : Type 0} (after cpu : List ℕ) (r : ℕ) (m n : Machine) (a : Result A Refusal) → length block ≡ machine_size → m ≡ machine_at block
+      → left (answer_of a) n cpu ≡ left_of (call m (step s)) → called r after ≡ finished block n a → StepPromise block s after cpu r
   unfolding call_lent
   step-called after cpu r m n a h w d f =
       let o = call (machine_at block) (step s) in
       let e = d ∙ ap (λ (x : Machine). left_of (call x (step s))) w in
       let here = eq-eqb (length block) machine_size h in
       promised block after r cpu _ _ (step s)
-      (f ∙ ap (λ (x : Left). answered block x.machine x.answer) e ∙ finished_of block o ∙ sym (ap called_of (cond_on here _ _)))
+      (f ∙ finished_of block o n a (λ j. (e j).number) (λ j. (e j).machine) ∙ sym (ap called_of (cond_on here _ _)))
       ((λ j. (e j).cpu) ∙ sym (ap (λ (x : Lent). x.answer.cpu) (cond_on here _ _))) refl refl
 
   -- it changes one entry of the block: to write that is to write the machine
-  pub step_block : (cpu : List ℕ) (m : Machine) (e : Processor) (a : Answer) → length block ≡ machine_size → m ≡ machine_at block
-      → left a (with_processor (s.processor % 16) e m) cpu ≡ left_of (call m (step s)) → a ≡ Done → (after : List ℕ)
-      → after ≡ sets block (2 + s.processor % 16 * entry_size) (entry_bytes e) → called 0 after ≡ answered block (with_processor (s.processor % 16) e m) a
-  step_block cpu m e a h w d f after q =
+  pub step_block : (cpu : List ℕ) (m : Machine) (e : Processor) → length block ≡ machine_size → m ≡ machine_at block
+      → left 0 (with_processor (s.processor % 16) e m) cpu ≡ left_of (call m (step s)) → (after : List ℕ)
+      → after ≡ sets block (2 + s.processor % 16 * entry_size) (entry_bytes e) → called 0 after ≡ called 0 (machine_bytes (with_processor (s.processor % 16) e m))
+  step_block cpu m e h w d after q =
       let b = machine_at block in
       let o = call b (step s) in
       let i = s.processor % 16 in
       let g = d ∙ ap (λ (x : Machine). left_of (call x (step s))) w in
-      let accepted : o.answer.number ≡ 0 = sym (number_in_lem o.answer.number) ∙ ap number_in (sym (ap (λ (x : Left). x.answer) g) ∙ f) in
+      let accepted : o.answer.number ≡ 0 = sym (ap (λ (x : Left). x.number) g) in
       let few = processor_few b s accepted in
       let shaped = (machine_shaped block h).count in
       let p : i ≡ s.processor = omega (arith, few) in
@@ -258,8 +264,7 @@ module _ (block : List ℕ) (s : StepCall) where
       let entry : e ≡ processor_at o.machine i =
       sym (get_or-set_same b.processors i e no_processor here) ∙ ap (λ (x : Machine). processor_at x i) (ap (with_processor i e) (sym w) ∙ same) in
       let written : Processor → ℕ → List ℕ = λ x k. sets block (2 + k * entry_size) (entry_bytes x) in
-      (λ j. called 0 ((q ∙ ap₂ written (entry ∙ ap (processor_at o.machine) p) p ∙ step_entry block h s accepted ∙ ap machine_bytes (sym same)) j))
-      ∙ ap (answered block (with_processor i e m)) (sym f)
+      λ j. called 0 ((q ∙ ap₂ written (entry ∙ ap (processor_at o.machine) p) p ∙ step_entry block h s accepted ∙ ap machine_bytes (sym same)) j)
 
 -- ---- a counter call
 
@@ -271,31 +276,30 @@ module _ (block : List ℕ) (c : CounterCall) where
       promised block block 1 c.cpu c.buffer _ (counter c) (short_called block (counter c) h) (λ j. (sym lent j).answer.cpu) (λ j. (sym lent j).answer.buffer) refl
 
   -- the block is not written, and need not be
-  pub counter-called : (cpu buffer : List ℕ) (m : Machine) (a : Answer) → length block ≡ machine_size → m ≡ machine_at block
-      → counting.left a m cpu buffer ≡ counting.left_of (call m (counter c)) → CounterPromise block c block cpu buffer (number_in a)
+  pub counter-called : (cpu buffer : List ℕ) (m : Machine) (n : ℕ) → length block ≡ machine_size → m ≡ machine_at block
+      → counting.left n m cpu buffer ≡ counting.left_of (call m (counter c)) → CounterPromise block c block cpu buffer n
   unfolding call_lent
-  counter-called cpu buffer m a h w d =
+  counter-called cpu buffer m n h w d =
       let o = call (machine_at block) (counter c) in
       let e = d ∙ ap (λ (x : Machine). counting.left_of (call x (counter c))) w in
       let lent : call_lent block (counter c) ≡ into block o = cond_on (eq-eqb (length block) machine_size h) _ _ in
-      let number : number_in a ≡ (call_lent block (counter c)).answer.number =
-      ap (λ (x : counting.Left). number_in x.answer) e ∙ number_in_lem o.answer.number ∙ (λ j. (sym lent j).answer.number) in
-      promised block block (number_in a) cpu buffer _ (counter c) (λ j. called (number j) (sym (counter_lent block c) j))
+      promised block block n cpu buffer _ (counter c) (λ j. called (((λ j. (e j).number) ∙ (λ j. (sym lent j).answer.number)) j) (sym (counter_lent block c) j))
       ((λ j. (e j).cpu) ∙ (λ j. (sym lent j).answer.cpu)) ((λ j. (e j).buffer) ∙ (λ j. (sym lent j).answer.buffer)) refl
 
 -- ---- CPUID
 
 module _ (block : List ℕ) (c : CpuidCall) (old : Leaf) where
-  pub cpuid_called : (m : Machine) (x : machineCall.Identified) → length block ≡ machine_size → m ≡ machine_at block → x ≡ identified_of (identify m c)
-      → identified old x.registers x.answer ≡ identify_lent block c old
-  cpuid_called m x h w e =
-      ap (λ (y : machineCall.Identified). identified old y.registers y.answer) (e ∙ ap (λ (y : Machine). identified_of (identify y c)) w)
-      ∙ (λ j. record { number = number_in_lem i.number j; registers = go (eqb i.number 0) j })
-      ∙ lent_block block c old h
-    where
-      i : cpuid.Identified
-      i = identify (machine_at block) c
+  abbrev told : Leaf → Bool → ℕ → cpuid.Identified
+  told l t n = record { number = n; registers = cond t l old }
 
-      go : (t : Bool) → value_left old i.registers (cond t Done (Refused i.number)) ≡ cond t i.registers old
-      go true = refl
-      go false = refl
+  pub cpuid_called : (m : Machine) (a : Result Leaf Refusal) → length block ≡ machine_size → m ≡ machine_at block → answer_of a ≡ (identify m c).number
+      → given zero_leaf a ≡ (identify m c).registers → record { number = answer_of a; registers = given old a } ≡ identify_lent block c old
+  cpuid_called m a h w e f = go a e f ∙ ap (λ (x : Machine). by (identify x c)) w ∙ lent_block block c old h
+    where
+      by : cpuid.Identified → cpuid.Identified
+      by i = told i.registers (eqb i.number 0) i.number
+
+      go : (a : Result Leaf Refusal) → answer_of a ≡ (identify m c).number → given zero_leaf a ≡ (identify m c).registers
+          → record { number = answer_of a; registers = given old a } ≡ told (identify m c).registers (eqb (identify m c).number 0) (identify m c).number
+      go (Ok l) e f = ap₂ (λ (l : Leaf) (n : ℕ). told l (eqb n 0) n) f e
+      go (Err why) e f = ap (λ (t : Bool). told zero_leaf t (number_in why)) (sym (positive why)) ∙ ap₂ (λ (l : Leaf) (n : ℕ). told l (eqb n 0) n) f e

@@ -1,58 +1,28 @@
--- A keyring's call by value keeps the promise of the call for C.
+-- A keyring's lookup by value keeps the promise of the call for C.
 -- Assumes nothing.
-use mathlib.Core.Path.{◌≡◌, ◌∙◌, refl, sym, ap, ap₂}
-use mathlib.Core.Bool.{Bool, true, false, cond}
+use mathlib.Core.Path.{◌≡◌, ◌∙◌, sym, ap}
+use mathlib.Core.Bool.{Bool, cond}
 use mathlib.Core.List.{List}
 use Prim.Native.Nat.{ℕ}
 use lib.Dec.{eqb}
-use borrow.Author.Tests.{eqb-true}
-use Rattle.keyring_model.specs.Lookup as lookups
-use Rattle.keyring_model.specs.Add as adding
-use Rattle.keyring.specs.Meaning.{looked_in, added_in, Adds}
-use Rattle.keyring.specs.declared.Answer.{Answer}
-use Rattle.keyring.specs.declared.Answer.TheVariants.{Found, Refused}
-use Rattle.keyring.specs.declared.Looked.{Looked}
-use Rattle.keyring.specs.declared.Added as added
-use Rattle.keyring.specs.declared.Added.TheVariants as adds
-
--- ---- lookup
+use Rattle.std.specs.Prelude.{Ok, Err}
+use Rattle.keyring_model.specs.Lookup.{Looked, unfound, lookup, lookup_lent}
+use Rattle.refusal.specs.Numbers.{number_of}
+use Rattle.refusal.specs.declared.Refusal.{Refusal}
+use Rattle.keyring.specs.Meaning.{looked_of}
+use Rattle.keyring.specs.declared.Entry.{Entry}
+use Rattle.keylocker.proofs.Finishing.{positive}
 
 -- what a lookup leaves: its number, and what is lent for kind and handle
-abbrev pub looked_left : (kind : ℕ) (handle bytes : List ℕ) → Answer → lookups.Looked
-looked_left kind handle bytes (Found k) = record { number = 0; kind = k; handle = bytes }
-looked_left kind handle bytes (Refused n) = record { number = n; kind = kind; handle = handle }
+module _ (b l : List ℕ) (kind : ℕ) (handle : List ℕ) where
+  abbrev left_by : Bool → Looked → Looked
+  left_by t x = record { number = x.number; kind = cond t x.kind kind; handle = cond t x.handle handle }
 
-left_of : (kind : ℕ) (handle : List ℕ) (x : lookups.Looked)
-    → looked_left kind handle x.handle (looked_in x).answer
-    ≡ record { number = x.number; kind = cond (eqb x.number 0) x.kind kind; handle = cond (eqb x.number 0) x.handle handle }
-left_of kind handle x = go (eqb x.number 0) refl
-  where
-    go : (t : Bool) → eqb x.number 0 ≡ t
-        → looked_left kind handle x.handle (cond t (Found x.kind) (Refused x.number))
-        ≡ record { number = x.number; kind = cond t x.kind kind; handle = cond t x.handle handle }
-    go true e = ap (λ (n : ℕ). record { number = n; kind = x.kind; handle = x.handle }) (sym (eqb-true x.number 0 e))
-    go false e = refl
+  pub found : (e : Entry) → looked_of (Ok e) ≡ lookup b l → record { number = 0; kind = e.kind; handle = e.handle } ≡ lookup_lent b l kind handle
+  unfolding lookup_lent
+  found e f = ap (λ (x : Looked). left_by (eqb x.number 0) x) f
 
-pub looked_called : (b l : List ℕ) (kind : ℕ) (handle : List ℕ) (x : Looked) (a : Answer) → x ≡ looked_in (lookups.lookup b l) → x.answer ≡ a
-    → looked_left kind handle x.handle a ≡ lookups.lookup_lent b l kind handle
-unfolding lookups.lookup_lent
-looked_called b l kind handle x a e f =
-    ap (looked_left kind handle x.handle) (sym f)
-    ∙ ap (λ (x : Looked). looked_left kind handle x.handle x.answer) e
-    ∙ left_of kind handle (lookups.lookup b l)
-
--- ---- add
-
-abbrev pub number_of : added.Added → ℕ
-number_of adds.Done = 0
-number_of (adds.Refused n) = n
-
-number_in : (n : ℕ) → number_of (added_in n) ≡ n
-number_in n = go (eqb n 0) refl
-  where
-    go : (t : Bool) → eqb n 0 ≡ t → number_of (cond t adds.Done (adds.Refused n)) ≡ n
-    go true e = sym (eqb-true n 0 e)
-    go false e = refl
-
-pub added_called : (x : adding.Added) (r s : added.Added) (after : List ℕ) → Adds r after x → r ≡ s → adding.added (number_of s) after ≡ x
-added_called x r s after a e = ap₂ adding.added (ap number_of (sym e ∙ a.0) ∙ number_in x.number) a.1
+  pub unfound_lem : (e : Refusal) → looked_of (Err e) ≡ lookup b l → record { number = number_of e; kind = kind; handle = handle } ≡ lookup_lent b l kind handle
+  unfolding lookup_lent
+  unfound_lem e f =
+      ap (λ (t : Bool). left_by t (unfound (number_of e))) (sym (positive e)) ∙ ap (λ (x : Looked). left_by (eqb x.number 0) x) f

@@ -1,31 +1,57 @@
-// The calls for C: the machine is lent as 924 bytes. Each answers 0, or the number of the refusal, which leaves every lent byte.
+// The calls for C: the machine is lent as 924 bytes. Each answers 0, or the number of the refusal, which leaves every lent byte. Parameters are C's.
 #![tactic(auto)]
 
-ghost use Rattle.std.specs.Prelude.{◌≡◌, length};
-ghost use Rattle.model.specs.Layout.{machine_size};
+ghost use Rattle.std.specs.Prelude.{◌≡◌, ◌≢◌, length};
+ghost use Rattle.std.specs.Fn.{FnOnceReturnsAtMut};
+ghost use Rattle.model.specs.Layout.{machine_size, machine_at};
+ghost use Rattle.refusal.specs.Numbers.{number_of, answer_of};
 ghost use Rattle.keylocker.specs.Meaning.{called, finished};
 ghost use Rattle.keylocker.specs.Promises.{PowerOnPromise, StepPromise, CounterPromise, ReadPromise, WritePromise, SettlePromise, SleepPromise, ResetPromise, TakenPromise, CpuidPromise, KeyringLookupPromise, KeyringAddPromise};
 
-use layout::read_machine;
+use layout::{Block, read_machine};
 use layout_write::{write_entry, write_machine};
-use machine::Outcome;
-use step::Answer;
+use model::Machine;
+use refusal::Refusal;
 
-const MACHINE_SIZE: usize = 924;
-
-fn finish(block: &mut [u8], o: Outcome) -> u32
-    requires { length block.old ≡ machine_size }
-    ensures { called result block.new ≡ finished block.old o }
+// The number that C sees.
+fn refused(why: Refusal) -> u32
+    ensures { result ≡ number_of why }
 {
-    let answer = o.answer;
+    u32::from(why.number())
+}
+
+// What C sees of a call that gives no more than its answer.
+fn number(answer: Result<(), Refusal>) -> u32
+    ensures { result ≡ answer_of answer }
+{
     match answer {
-        Answer::Refused(number) => number as u32,
-        Answer::Done => {
-            let m = o.machine;
-            write_machine(block, m);
-            0
-        }
+        Ok(()) => 0,
+        Err(why) => refused(why),
     }
+}
+
+// The machine after a call goes back into its bytes, where the call was done.
+fn finish(block: &mut Block, m: &Machine, answer: Result<(), Refusal>) -> u32
+    ensures { called result block.new ≡ finished block.old m.now answer }
+{
+    if answer.is_ok() {
+        write_machine(block, m);
+    }
+    number(answer)
+}
+
+// What the calls share that may change the whole machine and give no more than their answer.
+fn change<F: FnOnce(&mut Machine) -> Result<(), Refusal>>(machine: &mut [u8], call: F) -> u32
+    requires { F.IsAlwaysCallable call }
+    ensures another_length { length machine.old ≢ machine_size → called result machine.new ≡ called 1 machine.old }
+    ensures called { length machine.old ≡ machine_size → (m : Machine) × (answer : _) × FnOnceReturnsAtMut F.FnOnce call (machine_at machine.old) answer m × (called result machine.new ≡ finished machine.old m answer) }
+{
+    let Some(block) = machine.as_mut_array() else {
+        return refused(Refusal::Machine);
+    };
+    let mut m = read_machine(block);
+    let answer = call(&mut m);
+    finish(block, &m, answer)
 }
 
 #[unsafe(no_mangle)]
@@ -33,54 +59,39 @@ fn finish(block: &mut [u8], o: Outcome) -> u32
 pub extern "C" fn keylocker_power_on(machine: &mut [u8], count: u8, features: u8) -> u32
     ensures { PowerOnPromise machine.old (record { count = count; features = features }) machine.new result }
 {
-    if machine.len() != MACHINE_SIZE {
-        return 1;
-    }
-    finish(machine, machine::power_on(count, features))
+    let Some(block) = machine.as_mut_array() else {
+        return refused(Refusal::Machine);
+    };
+    let started = machine::power_on(count, features);
+    finish(block, &started.machine, started.answer)
 }
 
 #[unsafe(no_mangle)]
 pub extern "C" fn keylocker_settle(machine: &mut [u8], code: u8) -> u32
     ensures { SettlePromise machine.old (record { code = code }) machine.new result }
 {
-    if machine.len() != MACHINE_SIZE {
-        return 1;
-    }
-    let m = read_machine(machine);
-    finish(machine, machine::settle(m, code))
+    change(machine, |m| machine::settle(m, code))
 }
 
 #[unsafe(no_mangle)]
 pub extern "C" fn keylocker_sleep(machine: &mut [u8], code: u8) -> u32
     ensures { SleepPromise machine.old (record { code = code }) machine.new result }
 {
-    if machine.len() != MACHINE_SIZE {
-        return 1;
-    }
-    let m = read_machine(machine);
-    finish(machine, machine::sleep(m, code))
+    change(machine, |m| machine::sleep(m, code))
 }
 
 #[unsafe(no_mangle)]
 pub extern "C" fn keylocker_reset(machine: &mut [u8]) -> u32
     ensures { ResetPromise machine.old machine.new result }
 {
-    if machine.len() != MACHINE_SIZE {
-        return 1;
-    }
-    let m = read_machine(machine);
-    finish(machine, machine::reset(m))
+    change(machine, machine::reset)
 }
 
 #[unsafe(no_mangle)]
 pub extern "C" fn keylocker_taken(machine: &mut [u8]) -> u32
     ensures { TakenPromise machine.old machine.new result }
 {
-    if machine.len() != MACHINE_SIZE {
-        return 1;
-    }
-    let m = read_machine(machine);
-    finish(machine, machine::taken(m))
+    change(machine, machine::taken)
 }
 
 // ---- the backup registers
@@ -96,18 +107,15 @@ pub extern "C" fn keylocker_read(
 ) -> u32
     ensures { ReadPromise machine.now (record { processor = processor; cpl = cpl; address = address }) value.old value.new result }
 {
-    if machine.len() != MACHINE_SIZE {
-        return 1;
-    }
-    let m = read_machine(machine);
-    let o = machine::read(m, processor, cpl, address);
-    let answer = o.answer;
-    match answer {
-        Answer::Refused(n) => n as u32,
-        Answer::Done => {
-            *value = o.value;
+    let Some(block) = machine.as_array() else {
+        return refused(Refusal::Machine);
+    };
+    match machine::read(&read_machine(block), processor, cpl, address) {
+        Ok(read) => {
+            *value = read;
             0
         }
+        Err(unread) => refused(unread),
     }
 }
 
@@ -121,17 +129,16 @@ pub extern "C" fn keylocker_write(
 ) -> u32
     ensures { WritePromise machine.old (record { processor = processor; cpl = cpl; address = address; value = value }) machine.new result }
 {
-    if machine.len() != MACHINE_SIZE {
-        return 1;
-    }
-    let m = read_machine(machine);
-    finish(machine, machine::write(m, processor, cpl, address, value))
+    change(machine, |m| {
+        machine::write(m, processor, cpl, address, value)
+    })
 }
 
 // ---- step
 
+// The machine is given by value, and of its bytes only the entry of the step's processor is written.
 #[unsafe(no_mangle)]
-#[tactic(auto, using(crate::proofs::Finishing::step_short, crate::proofs::Finishing::step_block))]
+#[tactic(auto, using(crate::proofs::Finishing::step_short))]
 pub extern "C" fn keylocker_step(
     machine: &mut [u8],
     processor: u8,
@@ -142,19 +149,16 @@ pub extern "C" fn keylocker_step(
 ) -> u32
     ensures { StepPromise machine.old (record { processor = processor; cpu = cpu.old; memory = memory.now; random = random.now; string = string.now }) machine.new cpu.new result }
 {
-    if machine.len() != MACHINE_SIZE {
-        return 1;
-    }
-    let m = read_machine(machine);
-    let x = step::step(m, processor, cpu, memory, random, string);
-    let e = x.processor;
-    let answer = x.answer;
-    match answer {
-        Answer::Refused(refusal) => refusal as u32,
-        Answer::Done => {
-            write_entry(machine, processor, e);
+    let Some(block) = machine.as_mut_array() else {
+        return refused(Refusal::Machine);
+    };
+    let m = read_machine(block);
+    match step::step(m, processor, cpu, memory, random, string) {
+        Ok(e) => {
+            write_entry(block, processor, &e);
             0
         }
+        Err(why) => refused(why),
     }
 }
 
@@ -173,21 +177,18 @@ pub extern "C" fn keylocker_ctr(
 ) -> u32
     ensures { CounterPromise machine.old (record { processor = processor; cpu = cpu.old; handle = handle.now; counter = counter.now; buffer = buffer.old }) machine.new cpu.new buffer.new result }
 {
-    if machine.len() != MACHINE_SIZE {
-        return 1;
-    }
-    let m = read_machine(machine);
-    match counter::count(m, processor, cpu, handle, counter, buffer) {
-        Answer::Refused(uncounted) => uncounted as u32,
-        Answer::Done => 0,
-    }
+    let Some(block) = machine.as_array() else {
+        return refused(Refusal::Machine);
+    };
+    let m = read_machine(block);
+    number(counter::count(&m, processor, cpu, handle, counter, buffer))
 }
 
 // ---- CPUID
 
 // Machine and CPU record are not written, and the four registers only where the answer is 0.
 #[unsafe(no_mangle)]
-#[tactic(auto, using(cpuid_model::proofs::Calls::lent_short, crate::proofs::Finishing::cpuid_called))]
+#[tactic(auto, using(cpuid_model::proofs::Calls::lent_short))]
 pub extern "C" fn keylocker_cpuid(
     machine: &[u8],
     cpu: &[u8],
@@ -200,22 +201,18 @@ pub extern "C" fn keylocker_cpuid(
 ) -> u32
     ensures { CpuidPromise machine.now (record { cpu = cpu.now; leaf = leaf; subleaf = subleaf }) (record { eax = eax.old; ebx = ebx.old; ecx = ecx.old; edx = edx.old }) (record { eax = eax.new; ebx = ebx.new; ecx = ecx.new; edx = edx.new }) result }
 {
-    if machine.len() != MACHINE_SIZE {
-        return 1;
-    }
-    let m = read_machine(machine);
-    let x = machine::cpuid(m, cpu, leaf, subleaf);
-    let registers = x.registers;
-    let answer = x.answer;
-    match answer {
-        Answer::Refused(refused) => refused as u32,
-        Answer::Done => {
+    let Some(block) = machine.as_array() else {
+        return refused(Refusal::Machine);
+    };
+    match machine::cpuid(&read_machine(block), cpu, leaf, subleaf) {
+        Ok(registers) => {
             *eax = registers.eax;
             *ebx = registers.ebx;
             *ecx = registers.ecx;
             *edx = registers.edx;
             0
         }
+        Err(unidentified) => refused(unidentified),
     }
 }
 
@@ -231,16 +228,15 @@ pub extern "C" fn keylocker_keyring_lookup(
 ) -> u32
     ensures { KeyringLookupPromise keyring.now label.now kind.old handle.old kind.new handle.new result }
 {
-    let x = keyring::lookup(keyring, label);
-    let bytes = x.handle;
-    let answer = x.answer;
-    match answer {
-        keyring::Answer::Refused(unfound) => unfound as u32,
-        keyring::Answer::Found(k) => {
-            *kind = k;
+    match keyring::lookup(keyring, label) {
+        Ok(found) => {
+            // A variable of its own: an array in a field is not stored straight (the borrow checker does not cover it).
+            let bytes = found.handle;
+            *kind = found.kind;
             *handle = bytes;
             0
         }
+        Err(unfound) => refused(unfound),
     }
 }
 
@@ -248,8 +244,5 @@ pub extern "C" fn keylocker_keyring_lookup(
 pub extern "C" fn keylocker_keyring_add(keyring: &mut [u8], label: &[u8], handle: &[u8]) -> u32
     ensures { KeyringAddPromise keyring.old label.now handle.now keyring.new result }
 {
-    match keyring::add(keyring, label, handle) {
-        keyring::Added::Refused(unadded) => unadded as u32,
-        keyring::Added::Done => 0,
-    }
+    number(keyring::add(keyring, label, handle))
 }

@@ -1,4 +1,3 @@
 pub mod Turns
-pub mod Filling
 pub mod Written
 pub mod Calls

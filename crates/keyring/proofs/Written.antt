@@ -1,20 +1,33 @@
 -- A handle and a record, written part by part.
 -- Assumes nothing.
-use mathlib.Core.Path.{◌≡◌, refl, ap, ap₂, ◌∙◌}
+use mathlib.Core.Path.{◌≡◌, refl, ap, ap₂, subst, ◌∙◌}
 use mathlib.Core.List.{List, ◌∷◌, ◌++◌}
-use Prim.Native.Nat.{ℕ, suc, ◌+◌, ◌-◌, ◌*◌}
+use Prim.Native.Nat.{ℕ, suc, ◌+◌, ◌*◌, ◌<◌, ◌≤◌}
+use native.Mathlib.Nat.{zero-add}
 use native.Mathlib.Omega.{arith}
-use lib.ListN.{length, set, replicate, length-append}
-use lib.Seq.{sets}
+use Rattle.std.proofs.lemmas.List.{drop-replicate}
+use lib.ListN.{length, get_or, set, drop, replicate, length-append}
+use lib.Seq.{sets, sets-eq}
 use Rattle.bits.specs.Words.{le_bytes}
-use Rattle.bits.proofs.Runs.{then}
-use Rattle.keyring_model.specs.Records.{head_of, head_for, handle_room, zero_filled}
+use Rattle.bits.proofs.Runs.{then, Writing, writing_more, writing_all}
+use Rattle.keyring_model.specs.Records.{head_of, head_for, zero_filled}
 use Rattle.keyring_model.specs.Add.{kind_for, put_handle, put_record}
 
--- a handle, and then zeros
-pub filled_written : (b h : List ℕ) (at : ℕ) {k m : List ℕ} → k ≡ sets b at h → m ≡ sets k (at + length h) (replicate (handle_room - length h) 0)
-    → m ≡ sets b at (zero_filled h)
-filled_written b h at e f = f ∙ then b at (length h) h (replicate (handle_room - length h) 0) refl e
+-- a handle written over zeros
+pub zeros_behind : (h : List ℕ) → h ++ drop (length h) (replicate 64 0) ≡ zero_filled h
+zeros_behind h = ap (λ (z : List ℕ). h ++ z) (drop-replicate (length h) 64 0)
+
+-- the same byte by byte: one more, and all
+pub copied_more : {n : ℕ} {o a l : List ℕ} {i : ℕ} → Writing n o 0 a l i → i < n → Writing n o 0 a (set l i (get_or a i 0)) (i + 1)
+copied_more {n} {o} {a} {l} {i} t h = subst (λ (m : ℕ). Writing n o 0 a (set l m (get_or a i 0)) (i + 1)) (zero-add i) (writing_more t h)
+
+pub copied_all : {n : ℕ} {h l : List ℕ} {i : ℕ} → Writing n (replicate 64 0) 0 h l i → n ≤ i → n ≤ 64 → l ≡ zero_filled h
+copied_all {n} {h} {l} {i} t past fits =
+    let long : length h ≡ n = t.size in
+    writing_all t past
+    ∙ sets-eq h (replicate 64 0) 0 (omega arith)
+    ∙ ap (λ (m : ℕ). h ++ drop m (replicate 64 0)) (zero-add (length h))
+    ∙ zeros_behind h
 
 pub handle_written : (b h : List ℕ) (i kind : ℕ) {m : List ℕ} → kind ≡ kind_for h → m ≡ sets (set b (i * 80 + 2) kind) (i * 80 + 16) (zero_filled h)
     → m ≡ put_handle b i h

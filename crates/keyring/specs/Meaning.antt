@@ -1,37 +1,30 @@
--- What the answers by value mean: the papers' numbers, and the values of each case.
+-- What the answers by value mean, in the words of the definitions.
 -- Assumes nothing.
-use Rattle.std.specs.Prelude.{◌≡◌, Bool, cond, List, ℕ, ◌<◌, eqb, get_or}
-use Rattle.std.proofs.Math.Option.{Option, none, some}
+use Rattle.std.specs.Prelude.{Bool, List, ℕ, ◌||◌, eqb, get_or, Option, Some, None, Result, Ok, Err}
+use Rattle.std.proofs.Math.Option as maybe
+use Rattle.keyring_model.specs.Records.{zero_filled}
 use Rattle.keyring_model.specs.Lookup as lookups
-use Rattle.keyring_model.specs.Add as adding
-use Rattle.keyring.specs.declared.Found.{Found}
-use Rattle.keyring.specs.declared.Found.TheVariants as found
-use Rattle.keyring.specs.declared.Answer.TheVariants as answer
-use Rattle.keyring.specs.declared.Looked.{Looked}
-use Rattle.keyring.specs.declared.Added.{Added}
-use Rattle.keyring.specs.declared.Added.TheVariants as added
+use Rattle.keyring_model.specs.Add.{kind_for}
+use Rattle.refusal.specs.declared.Refusal.{Refusal}
+use Rattle.refusal.specs.Numbers.{number_of}
+use Rattle.keyring.specs.declared.Entry.{Entry}
 
 -- the record found
-abbrev pub found_of : Found → Option ℕ
-found_of (found.At i) = some i
-found_of found.Nothing = none
+abbrev pub found_of : Option ℕ → maybe.Option ℕ
+found_of (Some i) = maybe.some i
+found_of None = maybe.none
 
--- a record found stands behind record 0, among n records
-abbrev pub Behind : Found → ℕ → Type 0
-Behind (found.At i) n = (0 < i) × (i < n)
-Behind found.Nothing n = Unit {0}
+-- what a lookup answers; where it is refused, the definition has kind 0 and a handle of zeros
+abbrev pub looked_of : Result Entry Refusal → lookups.Looked
+looked_of (Ok e) = record { number = 0; kind = e.kind; handle = e.handle }
+looked_of (Err why) = lookups.unfound (number_of why)
 
--- a lookup by value: 0 is found, any other number refused
-abbrev pub looked_in : lookups.Looked → Looked
-looked_in x = record { answer = cond (eqb x.number 0) (answer.Found x.kind) (answer.Refused x.number); handle = x.handle }
+-- what is kept of a handle
+abbrev pub entry_of : List ℕ → Entry
+entry_of h = record { kind = kind_for h; handle = zero_filled h }
 
--- an add: 0 is done, any other number refused
-abbrev pub added_in : ℕ → Added
-added_in number = cond (eqb number 0) added.Done (added.Refused number)
-
--- its answer, and the block at exit
-abbrev pub Adds : Added → List ℕ → adding.Added → Type 0
-Adds r after x = (r ≡ added_in x.number) × (after ≡ x.keyring)
+abbrev pub is_handle_size : ℕ → Bool
+is_handle_size n = eqb n 48 || eqb n 64
 
 -- whether an index is not marked
 abbrev pub unmarked : List ℕ → ℕ → Bool

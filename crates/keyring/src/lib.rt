@@ -1,7 +1,7 @@
 // A keyring: handles kept by label, in 80-byte records on sixteen chains. Both calls have an answer for every block, label and handle.
 #![tactic(auto)]
 
-ghost use Rattle.std.specs.Prelude.{◌≡◌, true, cond, ◌&&◌, ◌||◌, ◌+◌, ◌-◌, ◌*◌, ◌≤◌, ◌<◌, eqb, length, take, drop, replicate};
+ghost use Rattle.std.specs.Prelude.{◌≡◌, ◌≢◌, true, false, ◌+◌, ◌-◌, ◌*◌, ◌≤◌, ◌<◌, List, ℕ, length, Option, Some, None, IfSome, IfOk, IfErr};
 ghost use Rattle.std.proofs.lemmas.List.Edits.{sets};
 ghost use Rattle.bits.specs.Words.{le_bytes};
 ghost use Rattle.keyring_model.specs.Records as records;
@@ -9,9 +9,14 @@ ghost use Rattle.keyring_model.specs.Chains.{chain};
 ghost use Rattle.keyring_model.specs.Validity as validity;
 ghost use Rattle.keyring_model.specs.Lookup as lookups;
 ghost use Rattle.keyring_model.specs.Add as adding;
-ghost use Rattle.keyring.specs.Meaning.{found_of, Behind, looked_in, Adds, unmarked};
+ghost use Rattle.keyring_validity.specs.Marks.{Unmarked, Checked};
+ghost use Rattle.refusal.specs.declared.Refusal.TheVariants as refusals;
+ghost use Rattle.refusal.specs.Numbers.{answer_of};
+ghost use Rattle.keyring.specs.Meaning.{found_of, looked_of, entry_of, is_handle_size, unmarked};
 
-use keyring_validity::{HEADS, KIND, RECORD_SIZE, ZERO, index_at, valid};
+use keyring_validity::{HEADS, KIND, Marks, RECORD_SIZE, ZERO, fresh_marks, index_at, valid};
+use parts::put_part;
+use refusal::{Refusal, refuse_if};
 
 const LABEL: usize = 4;
 
@@ -23,71 +28,97 @@ const HANDLE_128: usize = 48;
 
 const HANDLE_256: usize = 64;
 
-const MARKS: usize = 819;
+type Label = [u8; 12];
 
-// A record's index, or none.
+/// What a label gives: the kind of its handle, and the handle with zeros behind it.
 #[derive(Clone, Copy)]
-pub enum Found {
-    At(usize),
-    Nothing,
-}
-
-// What a lookup answers: the kind, or the refusal's number.
-#[derive(Clone, Copy)]
-pub enum Answer {
-    Found(u8),
-    Refused(u8),
-}
-
-// The handle is zero-filled, and all zero where the lookup is refused.
-#[derive(Clone, Copy)]
-pub struct Looked {
-    pub answer: Answer,
+pub struct Entry {
+    /// 0 or 1, as the record has it and as C is given it.
+    pub kind: u8,
     pub handle: [u8; 64],
 }
 
-#[derive(Clone, Copy)]
-pub enum Added {
-    Done,
-    Refused(u8),
+// ---- refusal 15
+
+fn ask_valid(keyring: &[u8], marks: &mut Marks) -> Result<(), Refusal>
+    requires { Unmarked marks.old }
+    ensures ok { IfOk result (λ _. Checked keyring.now marks.new true) }
+    ensures err { IfErr result (λ e. (e ≡ refusals.Keyring) × (validity.valid keyring.now ≡ false)) }
+{
+    refuse_if(!valid(keyring, marks), Refusal::Keyring)
+}
+
+fn ask_label(label: &[u8]) -> Result<&Label, Refusal>
+    ensures ok { IfOk result (λ l. (l.now ≡ label.now) × (length label.now ≡ 12)) }
+    ensures err { IfErr result (λ e. (e ≡ refusals.Keyring) × (length label.now ≢ 12)) }
+{
+    label.as_array().ok_or(Refusal::Keyring)
+}
+
+// A handle, and zeros behind it.
+#[tactic(auto, using(crate::proofs::Written::zeros_behind))]
+fn zero_filled(handle: &[u8]) -> [u8; 64]
+    requires { length handle.now ≤ 64 }
+    ensures { result ≡ records.zero_filled handle.now }
+{
+    let mut filled = [0; HANDLE_256];
+    // By index: `copy_from_slice` is a call of memmove, which the library asks of nobody.
+    for (i, b) in handle.iter().enumerate() {
+        filled[i] = *b;
+    }
+    filled
+}
+
+fn ask_handle(handle: &[u8]) -> Result<Entry, Refusal>
+    ensures ok { IfOk result (λ e. (e ≡ entry_of handle.now) × (is_handle_size (length handle.now) ≡ true)) }
+    ensures err { IfErr result (λ e. (e ≡ refusals.Keyring) × (is_handle_size (length handle.now) ≡ false)) }
+{
+    let kind = match handle.len() {
+        HANDLE_128 => 0,
+        HANDLE_256 => 1,
+        _ => return Err(Refusal::Keyring),
+    };
+    Ok(Entry {
+        kind,
+        handle: zero_filled(handle),
+    })
 }
 
 // ---- the search
 
-// The first record of a chain that has the label: the first differing byte sends the search to the next record.
-#[tactic(auto, using(keyring_model::proofs::Walks::behind_0, keyring_model::proofs::Facts::Fields, keyring_model::proofs::Facts::fields, keyring_model::proofs::Facts::valid_fields, crate::proofs::Turns::no_more, crate::proofs::Turns::turned, crate::proofs::Turns::matched))]
-fn find(keyring: &[u8], n: usize, head: usize, label: &[u8]) -> Found
-    requires { (validity.valid keyring.now ≡ true) × (n ≡ records.records keyring.now) × (head < n) × (length label.now ≡ 12) }
-    ensures { (found_of result ≡ lookups.first_with keyring.now label.now (chain n keyring.now head)) × Behind result n }
+// For n beside the keyring see `keyring_validity::heads_inside`.
+// The first record of a chain that has the label: the first differing byte sends the search to the next record, out of the inner loop by a label, and a full
+// match breaks with the record. This form is bound (docs/DECISIONS.md, 81); a `for` over what is left gives no value to break with.
+#[tactic(auto, using(keyring_model::proofs::Facts::Fields, keyring_model::proofs::Facts::fields, keyring_model::proofs::Facts::valid_fields, crate::proofs::Turns::ended, crate::proofs::Turns::used_up, crate::proofs::Turns::turned, crate::proofs::Turns::matched))]
+fn find(keyring: &[u8], n: usize, head: usize, label: &Label) -> Option<usize>
+    requires { (validity.valid keyring.now ≡ true) × (n ≡ records.records keyring.now) × (head < n) }
+    ensures found { found_of result ≡ lookups.first_with keyring.now label.now (chain n keyring.now head) }
+    ensures inside { IfSome result (λ i. (0 < i) × (i < n)) }
 {
     let mut i = head;
     let mut left = n;
-    let found = 'chain: loop {
-        if (i == 0) | (left == 0) {
-            break 'chain Found::Nothing;
+    'chain: loop {
+        if i == 0 || left == 0 {
+            break 'chain None;
         }
         let current = i;
         let at = current * RECORD_SIZE;
         i = index_at(keyring, at);
         left -= 1;
-        let mut j: usize = 0;
-        while j < LABEL_SIZE {
+        for j in 0..LABEL_SIZE {
             if keyring[at + LABEL + j] != label[j] {
                 continue 'chain;
             }
-            j += 1;
         }
-        break 'chain Found::At(current);
-    };
-    found
+        break 'chain Some(current);
+    }
 }
 
 // The low four bits of the label's first byte pick the head.
-fn head_place(label: &[u8]) -> usize
-    requires { length label.now ≡ 12 }
+fn head_place(label: &Label) -> usize
     ensures { result ≡ records.head_for label.now * 2 }
 {
-    (label[0] as usize % HEADS) * 2
+    usize::from(label[0]) % HEADS * 2
 }
 
 // The index at a head. It is below n, and the test cannot fail; the choice keeps the index of the search in a whole register on the way from load to load,
@@ -97,16 +128,14 @@ fn first_index(keyring: &[u8], n: usize, at: usize) -> usize
     ensures { result ≡ records.index_at keyring.now at }
 {
     let i = index_at(keyring, at);
-    if i < n {
-        return i;
-    }
-    0
+    if i < n { i } else { 0 }
 }
 
 #[tactic(auto, using(keyring_model::proofs::Facts::Fields, keyring_model::proofs::Facts::fields, keyring_model::proofs::Facts::valid_fields))]
-fn search(keyring: &[u8], label: &[u8]) -> Found
-    requires { (validity.valid keyring.now ≡ true) × (length label.now ≡ 12) }
-    ensures { (found_of result ≡ lookups.first_on_chain keyring.now label.now) × Behind result (records.records keyring.now) }
+fn search(keyring: &[u8], label: &Label) -> Option<usize>
+    requires { validity.valid keyring.now ≡ true }
+    ensures found { found_of result ≡ lookups.first_on_chain keyring.now label.now }
+    ensures inside { IfSome result (λ i. (0 < i) × (i < records.records keyring.now)) }
 {
     let n = keyring.len() / RECORD_SIZE;
     let head = first_index(keyring, n, head_place(label));
@@ -115,188 +144,109 @@ fn search(keyring: &[u8], label: &[u8]) -> Found
 
 // ---- lookup
 
-// The first bytes of a part, and zeros.
-fn zero_filled(keyring: &[u8], at: usize, size: usize) -> [u8; 64]
-    requires { (size ≤ 64) × (at + size ≤ length keyring.now) }
-    ensures { result ≡ records.zero_filled (take size (drop at keyring.now)) }
-{
-    let mut handle = [0u8; 64];
-    for j in 0..size {
-        handle[j] = keyring[at + j];
-    }
-    handle
-}
-
-fn refused(number: u8) -> Looked
-    ensures { result ≡ record { answer = Answer.Refused number; handle = replicate 64 0 } }
-{
-    Looked {
-        answer: Answer::Refused(number),
-        handle: [0u8; 64],
-    }
-}
-
+// By the byte of the record, of which a valid keyring has 0 and 1.
 fn handle_size(kind: u8) -> usize
     ensures { (result ≡ records.handle_size kind) × (result ≤ 64) }
 {
-    if kind == 0 {
-        return HANDLE_128;
-    }
-    HANDLE_256
+    if kind == 0 { HANDLE_128 } else { HANDLE_256 }
 }
 
-fn looked_at(keyring: &[u8], i: usize) -> Looked
+// That record i lies inside is a clause here and where one is written: lent by itself a record would be no plainer, since a new one is written with its head,
+// which lies outside it.
+fn entry_at(keyring: &[u8], i: usize) -> Entry
     requires { i * 80 + 80 ≤ length keyring.now }
-    ensures { result ≡ record { answer = Answer.Found (records.kind_of keyring.now i); handle = records.handle_of keyring.now i } }
+    ensures { result ≡ record { kind = records.kind_of keyring.now i; handle = records.handle_of keyring.now i } }
 {
     let at = i * RECORD_SIZE;
     let kind = keyring[at + KIND];
-    let handle = zero_filled(keyring, at + HANDLE, handle_size(kind));
-    Looked {
-        answer: Answer::Found(kind),
-        handle,
+    let from = at + HANDLE;
+    Entry {
+        kind,
+        handle: zero_filled(&keyring[from..from + handle_size(kind)]),
     }
 }
 
-#[tactic(auto, using(keyring_validity::proofs::Fresh::fresh, crate::proofs::Calls::found_at, crate::proofs::Calls::found_none, crate::proofs::Calls::lookup_15, crate::proofs::Calls::lookup_past_15))]
-pub fn lookup(keyring: &[u8], label: &[u8]) -> Looked
-    ensures { result ≡ looked_in (lookups.lookup keyring.now label.now) }
+/// What the label gives. 15 where the block is no keyring or the label has not 12 bytes, 16 where no record has the label.
+#[tactic(auto, using(crate::proofs::Calls::lookup_15))]
+pub fn lookup(keyring: &[u8], label: &[u8]) -> Result<Entry, Refusal>
+    ensures { looked_of result ≡ lookups.lookup keyring.now label.now }
 {
-    let mut marks = [0u8; MARKS];
-    marks[0] = 1;
-    if !(valid(keyring, &mut marks) & (label.len() == LABEL_SIZE)) {
-        return refused(15);
-    }
-    match search(keyring, label) {
-        Found::At(i) => looked_at(keyring, i),
-        Found::Nothing => refused(16),
-    }
+    ask_valid(keyring, &mut fresh_marks())?;
+    let label = ask_label(label)?;
+    let Some(i) = search(keyring, label) else {
+        return Err(Refusal::NoLabel);
+    };
+    Ok(entry_at(keyring, i))
 }
 
 // ---- add
 
-// The lowest index from 1 on that is not marked.
+// The lowest index from 1 on that is not marked. Tried: `marks[1..n].iter().position(|m| *m == 0).map(|i| i + 1)`, of whose answer the proof did not close.
 #[tactic(auto, using(keyring_model::proofs::Walks::lowest_here, keyring_model::proofs::Walks::lowest_later))]
-fn lowest_free(marks: &[u8], n: usize) -> Found
-    requires { (1 ≤ n) × (n ≤ length marks.now) }
-    ensures { (found_of result ≡ adding.lowest (unmarked marks.now) (n - 1) 1) × Behind result n }
+fn lowest_free(marks: &Marks, n: usize) -> Option<usize>
+    requires { (1 ≤ n) × (n ≤ 819) }
+    ensures found { found_of result ≡ adding.lowest (unmarked marks.now) (n - 1) 1 }
+    ensures inside { IfSome result (λ i. (0 < i) × (i < n)) }
 {
-    let mut i = 1;
-    while i < n {
+    for i in 1..n {
         if marks[i] == 0 {
-            return Found::At(i);
+            return Some(i);
         }
-        i += 1;
     }
-    Found::Nothing
+    None
 }
 
 fn put_index(keyring: &mut [u8], at: usize, i: usize)
-    requires { at + 2 ≤ length keyring.old }
+    requires { (at + 2 ≤ length keyring.old) × (i < 65536) }
     ensures { keyring.new ≡ sets keyring.old at (le_bytes 2 i) }
 {
-    keyring[at] = (i % 256) as u8;
-    keyring[at + 1] = (i / 256 % 256) as u8;
-}
-
-fn put_bytes(keyring: &mut [u8], at: usize, bytes: &[u8])
-    requires { at + length bytes.now ≤ length keyring.old }
-    ensures { keyring.new ≡ sets keyring.old at bytes.now }
-{
-    for j in 0..bytes.len() {
-        keyring[at + j] = bytes[j];
-    }
-}
-
-fn put_zeros(keyring: &mut [u8], at: usize, n: usize)
-    requires { at + n ≤ length keyring.old }
-    ensures { keyring.new ≡ sets keyring.old at (replicate n 0) }
-{
-    for j in 0..n {
-        keyring[at + j] = 0;
-    }
-}
-
-// A handle, and zeros behind it.
-#[tactic(auto, using(crate::proofs::Written::filled_written))]
-fn put_filled(keyring: &mut [u8], at: usize, handle: &[u8])
-    requires { (at + 64 ≤ length keyring.old) × (length handle.now ≤ 64) }
-    ensures { keyring.new ≡ sets keyring.old at (records.zero_filled handle.now) }
-{
-    put_bytes(keyring, at, handle);
-    put_zeros(keyring, at + handle.len(), HANDLE_256 - handle.len());
-}
-
-fn kind_for(size: usize) -> u8
-    ensures { result ≡ cond (eqb size 48) 0 1 }
-{
-    if size == HANDLE_128 {
-        return 0;
-    }
-    1
+    put_part(keyring, at, &(i as u16).to_le_bytes());
 }
 
 #[tactic(auto, using(crate::proofs::Written::handle_written))]
-fn put_handle(keyring: &mut [u8], i: usize, handle: &[u8])
-    requires { (i * 80 + 80 ≤ length keyring.old) × (length handle.now ≤ 64) }
-    ensures { keyring.new ≡ adding.put_handle keyring.old i handle.now }
+fn put_handle(keyring: &mut [u8], i: usize, e: &Entry)
+    requires { i * 80 + 80 ≤ length keyring.old }
+    ensures { (h : List ℕ) → e.now ≡ entry_of h → keyring.new ≡ adding.put_handle keyring.old i h }
 {
     let at = i * RECORD_SIZE;
-    keyring[at + KIND] = kind_for(handle.len());
-    put_filled(keyring, at + HANDLE, handle);
+    keyring[at + KIND] = e.kind;
+    put_part(keyring, at + HANDLE, &e.handle);
 }
 
 #[tactic(auto, using(crate::proofs::Written::record_written))]
-fn put_record(keyring: &mut [u8], i: usize, label: &[u8], handle: &[u8])
-    requires { (i * 80 + 80 ≤ length keyring.old) × (length label.now ≡ 12) × (length handle.now ≤ 64) }
-    ensures { keyring.new ≡ adding.put_record keyring.old i label.now handle.now }
+fn put_record(keyring: &mut [u8], i: usize, label: &Label, e: &Entry)
+    requires { (i * 80 + 80 ≤ length keyring.old) × (i < 65536) }
+    ensures { (h : List ℕ) → e.now ≡ entry_of h → keyring.new ≡ adding.put_record keyring.old i label.now h }
 {
+    // In the order of a record's bytes, so not by `put_handle`.
     let at = i * RECORD_SIZE;
     let place = head_place(label);
     let next = index_at(keyring, place);
     put_index(keyring, at, next);
-    keyring[at + KIND] = kind_for(handle.len());
+    keyring[at + KIND] = e.kind;
     keyring[at + ZERO] = 0;
-    put_bytes(keyring, at + LABEL, label);
-    put_filled(keyring, at + HANDLE, handle);
+    put_part(keyring, at + LABEL, label);
+    put_part(keyring, at + HANDLE, &e.handle);
     put_index(keyring, place, i);
 }
 
-#[tactic(auto, using(keyring_model::proofs::Facts::Fields, keyring_model::proofs::Facts::fields, keyring_model::proofs::Facts::valid_fields))]
-fn add_new(keyring: &mut [u8], marks: &[u8], label: &[u8], handle: &[u8]) -> Added
-    requires { (validity.valid keyring.old ≡ true) × (length label.now ≡ 12) × (length handle.now ≤ 64) × (length marks.now ≡ 819) }
-    ensures { Adds result keyring.new (adding.added_new keyring.old label.now handle.now (adding.lowest (unmarked marks.now) (records.records keyring.old - 1) 1)) }
+/// Replaces what the label gives, or puts the handle into a free record. 15 as for a lookup, or where the handle has another size than the two; 17 where no
+/// record is free. A refusal leaves the block.
+#[tactic(auto, using(keyring_model::proofs::Facts::Fields, keyring_model::proofs::Facts::fields, keyring_model::proofs::Facts::valid_fields, crate::proofs::Calls::add_15))]
+pub fn add(keyring: &mut [u8], label: &[u8], handle: &[u8]) -> Result<(), Refusal>
+    ensures { adding.added (answer_of result) keyring.new ≡ adding.add keyring.old label.now handle.now }
 {
-    let n = keyring.len() / RECORD_SIZE;
-    match lowest_free(marks, n) {
-        Found::At(i) => {
-            put_record(keyring, i, label, handle);
-            Added::Done
-        }
-        Found::Nothing => Added::Refused(17),
+    let mut marks = fresh_marks();
+    ask_valid(keyring, &mut marks)?;
+    let label = ask_label(label)?;
+    let e = ask_handle(handle)?;
+    if let Some(i) = search(keyring, label) {
+        put_handle(keyring, i, &e);
+        return Ok(());
     }
-}
-
-fn lengths_valid(label: usize, handle: usize) -> bool
-    ensures { result ≡ (eqb label 12 && (eqb handle 48 || eqb handle 64)) }
-{
-    (label == LABEL_SIZE) & ((handle == HANDLE_128) | (handle == HANDLE_256))
-}
-
-#[tactic(auto, using(crate::proofs::Calls::found_at, crate::proofs::Calls::found_none, crate::proofs::Calls::add_15, crate::proofs::Calls::add_past_15, crate::proofs::Calls::tests, crate::proofs::Calls::adds_as, crate::proofs::Calls::free_marks, keyring_model::proofs::Facts::both, keyring_validity::proofs::Fresh::fresh))]
-pub fn add(keyring: &mut [u8], label: &[u8], handle: &[u8]) -> Added
-    ensures { Adds result keyring.new (adding.add keyring.old label.now handle.now) }
-{
-    let mut marks = [0u8; MARKS];
-    marks[0] = 1;
-    if !(valid(keyring, &mut marks) & lengths_valid(label.len(), handle.len())) {
-        return Added::Refused(15);
-    }
-    match search(keyring, label) {
-        Found::At(i) => {
-            put_handle(keyring, i, handle);
-            Added::Done
-        }
-        Found::Nothing => add_new(keyring, &marks, label, handle),
-    }
+    let Some(i) = lowest_free(&marks, keyring.len() / RECORD_SIZE) else {
+        return Err(Refusal::NoRoom);
+    };
+    put_record(keyring, i, label, &e);
+    Ok(())
 }

@@ -4,20 +4,44 @@ use mathlib.Core.Path.{◌≡◌, refl, sym, ap, ap₂, ◌∙◌}
 use mathlib.Core.Bool.{Bool, true, false, not, ◌&&◌, ◌||◌, and-true, and-false, and_assoc}
 use mathlib.Core.List.{List}
 use mathlib.Core.Option.{Option, none, some}
-use Prim.Native.Nat.{ℕ, ◌+◌, ◌*◌}
+use Prim.Native.Nat.{ℕ, ◌+◌, ◌-◌, ◌*◌, ◌<◌, ◌≤◌}
 use native.Mathlib.Omega.{arith}
 use lib.Dec.{eqb, ltb}
-use lib.ListN.{length, get_or}
+use lib.ListN.{length, get_or, take, drop}
+use lib.Seq.{get_or-take, get_or-drop}
 use borrow.Author.Tests.{eqb-true, eqb-false, le-ltb}
 use Rattle.keyring_model.specs.Records.{records, index_at, next_of, kind_of, zero_of}
 use Rattle.keyring_model.specs.Chains.{reached, member, distinct}
-use Rattle.keyring_model.specs.Validity.{size_valid, heads_inside, tail_zero, record_valid, records_valid, valid, fields_valid}
+use Rattle.keyring_model.specs.Validity.{every, record_valid, records_valid, valid, fields_valid}
+use Rattle.keyring_model.proofs.Walks.{every-none, every_more, every-not}
 use Rattle.keyring_model.proofs.Counts.{Below}
 use Rattle.keyring_model.proofs.Facts.{Fields, fields}
 use Rattle.keyring_model.proofs.Inside.{on_reached}
 use Rattle.keyring_validity.specs.Marks.{Unmarked, marked, Gives, Checked}
 use Rattle.keyring_validity.proofs.Marking.{given_some}
 use Rattle.keyring_validity.proofs.Distinct.{went, went-distinct, marked_tells}
+
+-- ---- a test of every number
+
+pub every_start : (p : ℕ → Bool) → true ≡ every 0 p
+every_start p = sym (every-none p)
+
+-- the records behind record 0, one by one
+module _ (b : List ℕ) (n i : ℕ) (t : Bool) (e : every (i - 1) (λ k. record_valid b (k + 1)) ≡ true) (f : t ≡ record_valid b i) where
+  pub every_one_more : 1 ≤ i → t ≡ true → every (i + 1 - 1) (λ k. record_valid b (k + 1)) ≡ true
+  every_one_more h g =
+      let p : i + 1 - 1 ≡ i - 1 + 1 = omega arith in
+      let q : i - 1 + 1 ≡ i = omega arith in
+      ap (λ n. every n (λ k. record_valid b (k + 1))) p
+      ∙ sym (every_more (λ k. record_valid b (k + 1)) (i - 1) true true (sym e) (sym g ∙ f ∙ ap (record_valid b) (sym q)))
+
+  pub one_fails : n ≡ records b → 1 ≤ i → i < n → t ≡ false → false ≡ records_valid b
+  one_fails p h k g =
+      let q : i - 1 + 1 ≡ i = omega arith in
+      sym (every-not (records b - 1) (λ k. record_valid b (k + 1)) (i - 1) (omega arith) (ap (record_valid b) q ∙ sym f ∙ g))
+
+pub tail_byte : (b : List ℕ) (j : ℕ) → j < 48 → get_or (take 48 (drop 32 b)) j 0 ≡ get_or b (32 + j) 0
+tail_byte b j h = get_or-take 48 (drop 32 b) j 0 h ∙ get_or-drop 32 b j 0
 
 -- ---- a record
 
@@ -44,14 +68,6 @@ record_told b i n next both e p q =
 -- ---- the whole block
 
 module _ (b : List ℕ) where
-  pub wrong_size : size_valid b ≡ false → false ≡ fields_valid b
-  wrong_size e = sym (ap (λ (t : Bool). t && heads_inside b && tail_zero b && records_valid b) e)
-
-  pub right_size : (h t r : Bool) → size_valid b ≡ true → h ≡ heads_inside b → t ≡ tail_zero b → r ≡ records_valid b → (h && t && r) ≡ fields_valid b
-  right_size h t r e p q s =
-      ap (λ (h : Bool). h && t && r) p ∙ ap (λ (t : Bool). heads_inside b && t && r) q ∙ ap (λ (r : Bool). heads_inside b && tail_zero b && r) s
-      ∙ sym (ap (λ (t : Bool). t && heads_inside b && tail_zero b && records_valid b) e)
-
   pub wrong_field : (m : List ℕ) → fields_valid b ≡ false → Checked b m false
   unfolding valid
   wrong_field m e =

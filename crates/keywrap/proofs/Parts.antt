@@ -5,10 +5,10 @@ use mathlib.Core.List.{List, [], ◌∷◌, ◌++◌, append-nil, append_assoc}
 use Prim.Native.Nat.{ℕ, ◌+◌, ◌≤◌}
 use native.Mathlib.Nat.{suc_inj, suc-ne-zero}
 use native.Mathlib.Omega.{arith}
-use lib.ListN.{length, take, replicate, length-append}
-use lib.Seq.{take_at, take-take, take-append-add}
+use lib.ListN.{length, take, drop, replicate, length-append}
+use lib.Seq.{take_all, take_at, take-take, take-append-add}
 use Rattle.bits.specs.Bytes.{xor_bytes}
-use Rattle.bits.proofs.Lists.{cons}
+use Rattle.bits.proofs.Lists.{cons, part_add}
 use Rattle.bits.proofs.Xor.{xor_length}
 use Rattle.handle.specs.Format.{handle}
 use Rattle.keywrap.specs.Meaning.{padded}
@@ -52,3 +52,8 @@ handle-padded a t c h k =
     sym (ap (λ (n : ℕ). take n (a ++ t ++ c ++ z)) (ap (λ (n : ℕ). n + 32) (sym front))
     ∙ ap (take (length (a ++ t) + 32)) (append_assoc (a ++ t) c z)
     ∙ take-append-add (a ++ t) (c ++ z) 32)
+
+-- a list of 64 bytes in its four blocks
+pub in_blocks : (b : List ℕ) → length b ≡ 64 → take 16 (drop 0 b) ++ take 16 (drop 16 b) ++ (take 16 (drop 32 b) ++ take 16 (drop 48 b)) ≡ b
+in_blocks b h =
+    ap₂ (λ (x y : List ℕ). x ++ y) (sym (part_add b 0 16 16)) (sym (part_add b 32 16 16)) ∙ sym (part_add b 0 32 32) ∙ take_all 64 b (omega arith)

@@ -1,6 +1,8 @@
 -- What depends on the size of the key: its blocks.
 -- Assumes nothing.
-use mathlib.Core.Path.{◌≡◌, refl}
+use mathlib.Core.Path.{◌≡◌, refl, sym, ap}
+use mathlib.Core.List.{List, ◌++◌}
+use Rattle.bits.specs.Words.{le_bytes}
 use Prim.Native.Nat.{ℕ, ◌+◌, ◌*◌, ◌≤◌}
 use native.Mathlib.Omega.{arith}
 use lib.ListN.{length, take}
@@ -33,3 +35,8 @@ words_bytes Aes256 = refl
 pub first_bytes : (size : KeySize) (h : Handle) → handle_bytes size h ≡ take (32 + 4 * nk size) (whole_handle h)
 first_bytes Aes128 h = refl
 first_bytes Aes256 h = refl
+
+-- the bit lengths of AAD and key
+pub length_block_lem : (size : KeySize) (aad : List ℕ) (k : Key) → length aad ≡ 16 → le_bytes 8 128 ++ le_bytes 8 (32 * nk size) ≡ le_bytes 8 (8 * length aad) ++ le_bytes 8 (8 * length (key_bytes size k))
+length_block_lem Aes128 aad k e = ap (λ (n : ℕ). le_bytes 8 (8 * n) ++ le_bytes 8 128) (sym e)
+length_block_lem Aes256 aad k e = ap (λ (n : ℕ). le_bytes 8 (8 * n) ++ le_bytes 8 256) (sym e)

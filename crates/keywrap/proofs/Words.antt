@@ -1,7 +1,7 @@
 -- The word forms of the steps on a block: top bit, counter, comparison.
 -- Assumes nothing.
 use mathlib.Core.Path.{◌≡◌, refl, sym, ap, ap₂, subst, ◌∙◌}
-use mathlib.Core.Bool.{Bool, true, false, ◌&&◌, and_assoc}
+use mathlib.Core.Bool.{Bool, ◌&&◌, and_assoc}
 use mathlib.Core.List.{List, [], ◌∷◌, ◌++◌}
 use Prim.Native.Nat.{ℕ, ◌+◌, ◌/◌, ◌%◌, ◌^◌, ◌<◌}
 use native.Mathlib.Nat.{suc_inj, suc-ne-zero}
@@ -9,6 +9,7 @@ use native.Mathlib.Omega.{arith}
 use lib.Dec.{T, eqb}
 use lib.ListN.{length}
 use borrow.Author.Tests.{eq-eqb, eqb-true}
+use Rattle.std.specs.Cmp.{both_ways}
 use Rattle.bits.specs.Bytes.{alike}
 use Rattle.bits.specs.Words.{le_bytes}
 use Rattle.bits.proofs.Lists.{list4, four, alike-eq, alike_self}
@@ -40,15 +41,9 @@ counter_block_lem a b c d i h =
 
 -- ---- comparison
 
--- a test of equality is told by what it decides
-both : (p q : Bool) → (p ≡ true → q ≡ true) → (q ≡ true → p ≡ true) → p ≡ q
-both true q f g = sym (f refl)
-both false true f g = g refl
-both false false f g = refl
-
 words_alike : (n x y : ℕ) → x < 256 ^ n → y < 256 ^ n → eqb x y ≡ alike (le_bytes n x) (le_bytes n y)
 words_alike n x y h k =
-    both (eqb x y) (alike (le_bytes n x) (le_bytes n y))
+    both_ways (eqb x y) (alike (le_bytes n x) (le_bytes n y))
     (λ e. ap (λ (z : ℕ). alike (le_bytes n x) (le_bytes n z)) (sym (eqb-true x y e)) ∙ alike_self (le_bytes n x))
     (λ e. eq-eqb x y (le_injective n x y h k (alike-eq (le_bytes n x) (le_bytes n y) (subst T (sym e) tt))))
 

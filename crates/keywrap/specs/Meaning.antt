@@ -1,14 +1,13 @@
 -- What the structs of this crate stand for.
 -- Assumes nothing.
 use Rattle.std.specs.Prelude.{List, ◌++◌, ℕ, take, replicate}
+use Rattle.std.specs.Prelude as answer
 use Rattle.std.proofs.Math.Option.{Option, none, some}
 use Rattle.aes.specs.Meaning.{bytes_of, key_bytes}
 use Rattle.aes.specs.declared.Key.{Key}
 use Rattle.fips197.specs.declared.KeySize.{KeySize}
 use Rattle.handle.specs.Format as format
 use Rattle.keywrap.specs.declared.Handle.{Handle}
-use Rattle.keywrap.specs.declared.Unwrapped.{Unwrapped}
-use Rattle.keywrap.specs.declared.Unwrapped.TheVariants as answer
 
 -- Intel 343965-001US section 1.4: the 48 or 64 bytes of a handle
 abbrev pub handle_bytes : KeySize → Handle → List ℕ
@@ -26,9 +25,9 @@ abbrev pub padded : ℕ → List ℕ → List ℕ
 padded n l = take n (l ++ replicate 16 0)
 
 -- the key that an answer hands out
-abbrev pub opened : Unwrapped → Option (List ℕ)
-opened (answer.Key k) = some (whole_key k)
-opened answer.Refused = none
+abbrev pub opened : answer.Option Key → Option (List ℕ)
+opened (answer.Some k) = some (whole_key k)
+opened answer.None = none
 
 abbrev pub padded_key : Option (List ℕ) → Option (List ℕ)
 padded_key none = none

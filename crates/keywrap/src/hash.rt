@@ -9,42 +9,28 @@ use fips197::KeySize;
 use polyval::polyval;
 
 // The bit lengths of AAD and key.
-#[tactic(auto, unfolding(handle::specs::Wrap::length_block))]
-fn length_block(size: KeySize, aad: Block, key: Key) -> Block
-    ensures { bytes_of result ≡ handle.length_block (bytes_of aad) (key_bytes size key) }
+#[tactic(auto, using(crate::proofs::Sizes::length_block_lem), unfolding(handle::specs::Wrap::length_block))]
+fn length_block(size: KeySize, aad: Block, key: &Key) -> Block
+    ensures { bytes_of result ≡ handle.length_block (bytes_of aad) (key_bytes size key.now) }
 {
-    match size {
-        KeySize::Aes128 => Block {
-            a: 128,
-            b: 0,
-            c: 128,
-            d: 0,
-        },
-        KeySize::Aes256 => Block {
-            a: 128,
-            b: 0,
-            c: 256,
-            d: 0,
-        },
+    Block {
+        a: 128,
+        b: 0,
+        c: 32 * size.words() as u32,
+        d: 0,
     }
 }
 
-pub(crate) fn hashed(integrity: Block, aad: Block, size: KeySize, key: Key) -> Block
-    ensures { bytes_of result ≡ handle.hashed (bytes_of integrity) (bytes_of aad) (key_bytes size key) }
+// Inlined, it would store the AAD word by word, and POLYVAL would wait for it.
+#[inline(never)]
+pub(crate) fn hashed(integrity: &[u8; 16], aad: Block, size: KeySize, key: &Key) -> Block
+    ensures { bytes_of result ≡ handle.hashed integrity.now (bytes_of aad) (key_bytes size key.now) }
 {
-    let lengths = length_block(size, aad, key);
+    let end = 16 + 4 * size.words();
     let mut bytes = [0u8; 64];
     put_block(&mut bytes, 0, aad);
     put_block(&mut bytes, 16, key.low);
-    match size {
-        KeySize::Aes128 => {
-            put_block(&mut bytes, 32, lengths);
-            polyval(integrity, &bytes[..48])
-        }
-        KeySize::Aes256 => {
-            put_block(&mut bytes, 32, key.high);
-            put_block(&mut bytes, 48, lengths);
-            polyval(integrity, &bytes)
-        }
-    }
+    put_block(&mut bytes, 32, key.high);
+    put_block(&mut bytes, end, length_block(size, aad, key));
+    polyval(Block::from(*integrity), &bytes[..end + 16])
 }

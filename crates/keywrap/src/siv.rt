@@ -1,34 +1,29 @@
-// Wrapping and unwrapping: tag and keystream by lent tables and the schedule of the encryption key.
-ghost use Rattle.std.specs.Prelude.{◌≡◌, ◌/◌, length};
-ghost use mathlib.Core.List.{flat_map};
+// Wrapping and unwrapping: tag and keystream by lent tables and the schedule of the encryption key. The two keys of an IWKey come one by one: the
+// type that holds them is `model`'s, which this crate does not know.
+ghost use Rattle.std.specs.Prelude.{◌≡◌, List, ℕ};
 ghost use Rattle.bits.specs.Bytes.{xor_bytes, alike};
+ghost use Rattle.fips197.specs.Aes.{encrypt};
 ghost use Rattle.fips197.specs.Cipher.{cipher};
-ghost use Rattle.fips197.specs.Sbox.{SboxTable};
 ghost use Rattle.fips197.specs.Sizes.{nr};
-ghost use Rattle.aes.specs.Meaning.{bytes_of, key_bytes, schedule};
-ghost use Rattle.fips197.specs.declared.KeySize.TheVariants.{Aes256};
-ghost use Rattle.aes_blocks.specs.Tables.{MixedTable};
+ghost use Rattle.aes.specs.Meaning.{bytes_of, key_bytes, schedule as schedule_of};
 ghost use Rattle.handle.specs.Wrap as handle;
 ghost use Rattle.handle.specs.Wrap.{wrap_key, unwrap_key};
 ghost use Rattle.keywrap.specs.Meaning.{handle_bytes, whole_key, whole_handle, padded, opened, padded_key};
 
+use crate::Handle;
 use crate::hash::hashed;
-use crate::tables::cipher_tables;
-use crate::{Handle, Unwrapped};
-use aes::xor::xor_block;
-use aes::{Block, Key};
-use aes_blocks::encrypt_block_with;
-use aes_key::expand_with;
+use aes::{Block, Key, Schedule};
+use aes_blocks::{AesTables, encrypt_block};
+use aes_key::expand;
 use fips197::KeySize;
+use sbox::Sbox;
 
 fn clear_top(b: Block) -> Block
     ensures { bytes_of result ≡ handle.clear_top (bytes_of b) }
 {
     Block {
-        a: b.a,
-        b: b.b,
-        c: b.c,
         d: b.d % 0x8000_0000,
+        ..b
     }
 }
 
@@ -37,96 +32,92 @@ fn counter_block(tag: Block, i: u32) -> Block
     ensures { bytes_of result ≡ handle.counter_block (bytes_of tag) i }
 {
     Block {
-        a: ((tag.a as u64 + i as u64) % 0x1_0000_0000) as u32,
-        b: tag.b,
-        c: tag.c,
+        a: tag.a.wrapping_add(i),
         d: tag.d % 0x8000_0000 + 0x8000_0000,
+        ..tag
     }
 }
 
+// Without an early exit, which would tell by its time where a forged tag first differs.
 fn same(a: Block, b: Block) -> bool
     ensures { result ≡ alike (bytes_of a) (bytes_of b) }
 {
     (a.a == b.a) & (a.b == b.b) & (a.c == b.c) & (a.d == b.d)
 }
 
-fn tag_with(
-    mixed: &[u32; 256],
-    sbox: &[u8; 256],
-    w: &[u32; 60],
-    integrity: Block,
-    aad: Block,
-    size: KeySize,
-    key: Key,
-) -> Block
-    requires mixed_table { MixedTable mixed.now }
-    requires sbox_table { SboxTable sbox.now }
-    ensures { bytes_of result ≡ cipher (schedule Aes256 w.now) (nr Aes256) (handle.clear_top (handle.hashed (bytes_of integrity) (bytes_of aad) (key_bytes size key))) }
-{
-    let h = clear_top(hashed(integrity, aad, size, key));
-    encrypt_block_with(mixed, sbox, KeySize::Aes256, w, h)
+// The keys of an IWKey, with what they are used by: tables to encrypt by, and the schedule of the encryption key.
+#[derive(Clone, Copy)]
+struct Keys<'a> {
+    tables: &'a AesTables<'a>,
+    integrity: &'a [u8; 16],
+    encryption: &'a [u8; 32],
+    schedule: &'a Schedule,
+    ghost expanded: { (b : List ℕ) → cipher (schedule_of schedule.now.size schedule.now.words) (nr schedule.now.size) b ≡ encrypt 8 encryption.now b },
 }
 
-// A block XORed with block i of the keystream.
-fn mask_block(
-    mixed: &[u32; 256],
-    sbox: &[u8; 256],
-    w: &[u32; 60],
-    tag: Block,
-    i: u32,
-    b: Block,
-) -> Block
-    requires mixed_table { MixedTable mixed.now }
-    requires sbox_table { SboxTable sbox.now }
-    ensures { bytes_of result ≡ xor_bytes (bytes_of b) (cipher (schedule Aes256 w.now) (nr Aes256) (handle.counter_block (bytes_of tag) i)) }
-{
-    xor_block(
-        b,
-        encrypt_block_with(mixed, sbox, KeySize::Aes256, w, counter_block(tag, i)),
-    )
-}
+impl Keys<'_> {
+    fn encrypt(&self, b: Block) -> Block
+        ensures { bytes_of result ≡ encrypt 8 self.now.encryption.now (bytes_of b) }
+    {
+        encrypt_block(self.tables, self.schedule, b)
+    }
 
-// A key, or its ciphertext, XORed with the keystream.
-fn mask_with(
-    mixed: &[u32; 256],
-    sbox: &[u8; 256],
-    w: &[u32; 60],
-    tag: Block,
-    size: KeySize,
-    key: Key,
-) -> Key
-    requires mixed_table { MixedTable mixed.now }
-    requires sbox_table { SboxTable sbox.now }
-    ensures { whole_key result ≡ padded 32 (xor_bytes (key_bytes size key) (flat_map (cipher (schedule Aes256 w.now) (nr Aes256)) (handle.counter_blocks (bytes_of tag) 0 (length (key_bytes size key) / 16)))) }
-{
-    let low = mask_block(mixed, sbox, w, tag, 0, key.low);
-    match size {
-        KeySize::Aes128 => Key {
-            low,
-            high: Block {
-                a: 0,
-                b: 0,
-                c: 0,
-                d: 0,
+    #[tactic(auto, unfolding(handle::specs::Wrap::tag))]
+    fn tag(&self, aad: Block, size: KeySize, key: &Key) -> Block
+        ensures { bytes_of result ≡ handle.tag self.now.integrity.now self.now.encryption.now (bytes_of aad) (key_bytes size key.now) }
+    {
+        self.encrypt(clear_top(hashed(self.integrity, aad, size, key)))
+    }
+
+    // A block XORed with block i of the keystream.
+    fn mask_block(&self, tag: Block, i: u32, b: Block) -> Block
+        ensures { bytes_of result ≡ xor_bytes (bytes_of b) (encrypt 8 self.now.encryption.now (handle.counter_block (bytes_of tag) i)) }
+    {
+        b.xor(self.encrypt(counter_block(tag, i)))
+    }
+
+    // A key, or its ciphertext, XORed with the keystream.
+    fn mask(&self, tag: Block, size: KeySize, key: &Key) -> Key
+        ensures { whole_key result ≡ padded 32 (handle.masked self.now.encryption.now (bytes_of tag) (key_bytes size key.now)) }
+    {
+        let low = self.mask_block(tag, 0, key.low);
+        // A key of 128 bits has no second block, and nothing is enciphered for it.
+        match size {
+            KeySize::Aes128 => Key {
+                low,
+                high: Block::ZERO,
             },
-        },
-        KeySize::Aes256 => Key {
-            low,
-            high: mask_block(mixed, sbox, w, tag, 1, key.high),
-        },
+            KeySize::Aes256 => Key {
+                low,
+                high: self.mask_block(tag, 1, key.high),
+            },
+        }
     }
 }
 
-// WrapKey128 and WrapKey256.
-pub fn wrap(size: KeySize, integrity: Block, encryption: Key, aad: Block, key: Key) -> Handle
-    ensures { whole_handle result ≡ padded 64 (wrap_key (bytes_of integrity) (key_bytes Aes256 encryption) (bytes_of aad) (key_bytes size key)) }
+/// WrapKey128 and WrapKey256.
+pub fn wrap(
+    size: KeySize,
+    integrity: &[u8; 16],
+    encryption: &[u8; 32],
+    aad: Block,
+    key: &Key,
+) -> Handle
+    ensures { whole_handle result ≡ padded 64 (wrap_key integrity.now encryption.now (bytes_of aad) (key_bytes size key.now)) }
 {
-    let mut sbox = [0u8; 256];
-    let mut mixed = [0u32; 256];
-    cipher_tables(&mut mixed, &mut sbox);
-    let w = expand_with(&sbox, KeySize::Aes256, encryption);
-    let tag = tag_with(&mixed, &sbox, &w, integrity, aad, size, key);
-    let ciphertext = mask_with(&mixed, &sbox, &w, tag, size, key);
+    let sbox = Sbox::new();
+    let mut room = [0; 256];
+    let tables = AesTables::new(&sbox, &mut room);
+    let mut schedule = Schedule::new(KeySize::Aes256);
+    expand(&sbox, &Key::from(*encryption), &mut schedule);
+    let keys = Keys {
+        tables: &tables,
+        integrity,
+        encryption,
+        schedule: &schedule,
+    };
+    let tag = keys.tag(aad, size, key);
+    let ciphertext = keys.mask(tag, size, key);
     Handle {
         aad,
         tag,
@@ -134,24 +125,25 @@ pub fn wrap(size: KeySize, integrity: Block, encryption: Key, aad: Block, key: K
     }
 }
 
-// UnwrapKeyAndAuthenticate384 and UnwrapKeyAndAuthenticate512, by lent tables.
-pub fn unwrap_with(
-    mixed: &[u32; 256],
-    sbox: &[u8; 256],
+/// UnwrapKeyAndAuthenticate384 and UnwrapKeyAndAuthenticate512, by lent tables: only an authentic handle hands out a key.
+pub fn unwrap(
+    tables: &AesTables,
     size: KeySize,
-    integrity: Block,
-    encryption: Key,
-    handle: Handle,
-) -> Unwrapped
-    requires mixed_table { MixedTable mixed.now }
-    requires sbox_table { SboxTable sbox.now }
-    ensures { opened result ≡ padded_key (unwrap_key (bytes_of integrity) (key_bytes Aes256 encryption) (handle_bytes size handle)) }
+    integrity: &[u8; 16],
+    encryption: &[u8; 32],
+    handle: &Handle,
+) -> Option<Key>
+    ensures { opened result ≡ padded_key (unwrap_key integrity.now encryption.now (handle_bytes size handle.now)) }
 {
-    let w = expand_with(sbox, KeySize::Aes256, encryption);
-    let key = mask_with(mixed, sbox, &w, handle.tag, size, handle.ciphertext);
-    let tag = tag_with(mixed, sbox, &w, integrity, handle.aad, size, key);
-    if same(tag, handle.tag) {
-        return Unwrapped::Key(key);
-    }
-    Unwrapped::Refused
+    let mut schedule = Schedule::new(KeySize::Aes256);
+    expand(tables.sbox, &Key::from(*encryption), &mut schedule);
+    let keys = Keys {
+        tables,
+        integrity,
+        encryption,
+        schedule: &schedule,
+    };
+    let key = keys.mask(handle.tag, size, &handle.ciphertext);
+    let tag = keys.tag(handle.aad, size, &key);
+    same(tag, handle.tag).then_some(key)
 }

@@ -39,7 +39,8 @@ pub extern "C" fn keywrap_unwrap(
     handle: &[u8; 64],
     key: &mut [u8; 32],
 ) -> u8
-    ensures { (result ≡ answer.code (padded_key (unwrap_key integrity.now encryption.now (take (32 + 4 * nk (size_of size)) handle.now)))) × (key.new ≡ answer.bytes (padded_key (unwrap_key integrity.now encryption.now (take (32 + 4 * nk (size_of size)) handle.now)))) }
+    ensures code { result ≡ answer.code (padded_key (unwrap_key integrity.now encryption.now (take (32 + 4 * nk (size_of size)) handle.now))) }
+    ensures key { key.new ≡ answer.bytes (padded_key (unwrap_key integrity.now encryption.now (take (32 + 4 * nk (size_of size)) handle.now))) }
 {
     keywrap_c::keywrap_unwrap(size, integrity, encryption, handle, key)
 }

@@ -1,16 +1,15 @@
-// The scope, "Records": "For C it is lent as 924 bytes". The machine in them. A call reads them all, so bytes go in runs of fixed length, which are
-// compiled to wide moves.
+// The machine out of the 924 bytes that C lends. A call reads them all, so bytes go in parts of fixed length, which are compiled to wide moves.
 #![tactic(auto)]
 
 ghost use Rattle.std.specs.Prelude.{◌≡◌, ◌+◌, ◌*◌, ◌%◌, ◌≤◌, ◌<◌, length, drop};
-ghost use Rattle.std.proofs.lemmas.List.Edits.{sets};
-ghost use Rattle.model.specs.Numbers.{part};
 ghost use Rattle.model.specs.Records.{processor_limit};
 ghost use Rattle.model.specs.Layout as layout;
 
 use model::{IwKey, Machine, Platform, Processor, Slot};
+use parts::part;
 
-// Sizes are sums of their parts, and a place is counted from the start of what holds it. `layout_write` goes by the same.
+// Sizes are sums of their parts, and a place is counted from the start of what holds it. `layout_write` goes by the same. Slice and place are handed on one by
+// one: a slice cut to each part would be asked for its length at each cut, and name the place all the same.
 pub const INTEGRITY_SIZE: usize = 16;
 
 pub const SOURCE: usize = INTEGRITY_SIZE + 32;
@@ -35,111 +34,84 @@ pub const ENTRIES: usize = 2;
 
 pub const PLATFORM: usize = ENTRIES + 16 * ENTRY_SIZE;
 
-fn bytes_16(s: &[u8], at: usize) -> [u8; 16]
-    requires { at + 16 ≤ length s.now }
-    ensures { result ≡ part 16 at s.now }
-{
-    let mut a = [0u8; 16];
-    for i in 0..16usize {
-        a[i] = s[at + i];
-    }
-    a
-}
+/// The bytes that C keeps a machine in, from one call to the next: count, features, 16 entries, then the platform.
+pub type Block = [u8; 924];
 
-fn bytes_32(s: &[u8], at: usize) -> [u8; 32]
-    requires { at + 32 ≤ length s.now }
-    ensures { result ≡ part 32 at s.now }
-{
-    let mut a = [0u8; 32];
-    for i in 0..32usize {
-        a[i] = s[at + i];
-    }
-    a
-}
-
-#[tactic(auto, using(crate::proofs::Read::key_read))]
+#[tactic(auto, using(crate::proofs::Read::behind, crate::proofs::Read::byte_behind))]
 fn key_at(s: &[u8], at: usize) -> IwKey
     requires { at + layout.iw_key_size ≤ length s.now }
     ensures { result ≡ layout.key_at (drop at s.now) }
 {
-    let integrity = bytes_16(s, at);
-    let encryption = bytes_32(s, at + INTEGRITY_SIZE);
     IwKey {
-        integrity,
-        encryption,
+        integrity: part(s, at),
+        encryption: part(s, at + INTEGRITY_SIZE),
         source: s[at + SOURCE],
         no_backup: s[at + NO_BACKUP],
     }
 }
 
-// "integrity key, encryption key, source, NoBackup, copy status"
+// Its IWKey, then its copy status.
 fn entry_at(s: &[u8], at: usize) -> Processor
     requires { at + layout.entry_size ≤ length s.now }
     ensures { result ≡ layout.entry_at (drop at s.now) }
 {
-    let key = key_at(s, at);
     Processor {
-        key,
+        key: key_at(s, at),
         copy_status: s[at + KEY_SIZE],
     }
 }
 
-fn entry_number(s: &[u8], i: usize) -> Processor
-    requires s_len { length s.now ≡ layout.machine_size }
-    requires i_lt_processor_limit { i < processor_limit }
-    ensures { result ≡ layout.entry_at (drop (2 + i * layout.entry_size) s.now) }
+fn entry_number(block: &Block, i: usize) -> Processor
+    requires { i < processor_limit }
+    ensures { result ≡ layout.entry_at (drop (2 + i * layout.entry_size) block.now) }
 {
-    entry_at(s, ENTRIES + i * ENTRY_SIZE)
+    entry_at(block, ENTRIES + i * ENTRY_SIZE)
 }
 
-// Written out: a loop would have to fill the array before, and took twice as long.
-fn entries(s: &[u8]) -> [Processor; 16]
-    requires { length s.now ≡ layout.machine_size }
-    ensures { result ≡ layout.entries_at processor_limit (drop 2 s.now) }
+// Written out: as an array that a loop fills it was copied twice, and took twice as long (docs/DECISIONS.md, 51).
+fn entries(block: &Block) -> [Processor; 16]
+    ensures { result ≡ layout.entries_at processor_limit (drop 2 block.now) }
 {
     [
-        entry_number(s, 0),
-        entry_number(s, 1),
-        entry_number(s, 2),
-        entry_number(s, 3),
-        entry_number(s, 4),
-        entry_number(s, 5),
-        entry_number(s, 6),
-        entry_number(s, 7),
-        entry_number(s, 8),
-        entry_number(s, 9),
-        entry_number(s, 10),
-        entry_number(s, 11),
-        entry_number(s, 12),
-        entry_number(s, 13),
-        entry_number(s, 14),
-        entry_number(s, 15),
+        entry_number(block, 0),
+        entry_number(block, 1),
+        entry_number(block, 2),
+        entry_number(block, 3),
+        entry_number(block, 4),
+        entry_number(block, 5),
+        entry_number(block, 6),
+        entry_number(block, 7),
+        entry_number(block, 8),
+        entry_number(block, 9),
+        entry_number(block, 10),
+        entry_number(block, 11),
+        entry_number(block, 12),
+        entry_number(block, 13),
+        entry_number(block, 14),
+        entry_number(block, 15),
     ]
 }
 
-// "each a presence byte and an IWKey"
+// A presence byte, then an IWKey.
 fn slot_at(s: &[u8], at: usize) -> Slot
     requires { at + layout.slot_size ≤ length s.now }
     ensures { result ≡ layout.slot_at (drop at s.now) }
 {
-    let key = key_at(s, at + 1);
     Slot {
         present: s[at],
-        key,
+        key: key_at(s, at + 1),
     }
 }
 
-// "backup, then store, ..; pending, valid, error, consumed"
-#[tactic(auto, using(crate::proofs::Read::platform_read))]
+// Backup, store, then the four flags: pending, valid, error, consumed.
+#[tactic(auto, using(crate::proofs::Read::behind, crate::proofs::Read::byte_behind))]
 fn platform_at(s: &[u8], at: usize) -> Platform
     requires { at + layout.platform_size ≤ length s.now }
     ensures { result ≡ layout.platform_at (drop at s.now) }
 {
-    let backup = slot_at(s, at);
-    let store = slot_at(s, at + SLOT_SIZE);
     Platform {
-        backup,
-        store,
+        backup: slot_at(s, at),
+        store: slot_at(s, at + SLOT_SIZE),
         pending: s[at + PENDING],
         valid: s[at + VALID],
         error: s[at + ERROR],
@@ -147,18 +119,15 @@ fn platform_at(s: &[u8], at: usize) -> Platform
     }
 }
 
-// "count; features; 16 entries ..", then the platform
-#[tactic(auto, using(crate::proofs::Read::machine_read))]
-pub fn read_machine(s: &[u8]) -> Machine
-    requires { length s.now ≡ layout.machine_size }
-    ensures { result ≡ layout.machine_at s.now }
+/// The machine whose bytes they are. No From: the machine is `model`'s, and the bytes are an array.
+#[tactic(auto, unfolding(model::specs::Layout::machine_at))]
+pub fn read_machine(block: &Block) -> Machine
+    ensures { result ≡ layout.machine_at block.now }
 {
-    let processors = entries(s);
-    let platform = platform_at(s, PLATFORM);
     Machine {
-        count: s[0],
-        features: s[1],
-        processors,
-        platform,
+        count: block[0],
+        features: block[1],
+        processors: entries(block),
+        platform: platform_at(block, PLATFORM),
     }
 }

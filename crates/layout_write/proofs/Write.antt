@@ -2,12 +2,12 @@
 -- Assumes nothing.
 use mathlib.Core.Path.{◌≡◌, ◌∙◌, refl, sym, ap}
 use mathlib.Core.List.{List, [], ◌∷◌, ◌++◌, append-nil, append_assoc}
-use Prim.Native.Nat.{ℕ, suc, ◌+◌, ◌-◌, ◌*◌, ◌<◌}
+use Prim.Native.Nat.{ℕ, suc, ◌+◌, ◌*◌, ◌<◌}
 use native.Mathlib.Numerals.{add-one}
 use native.Mathlib.Omega.{arith}
 use lib.ListN.{length, get_or, set, take, length-append}
 use lib.Seq.{sets, take-suc}
-use Rattle.bits.proofs.Runs.{then, Writing}
+use Rattle.bits.proofs.Runs.{then}
 use Rattle.model.specs.Records.{processor_limit}
 use Rattle.model.specs.Layout.{iw_key_size, entry_size, slot_size, platform_size, machine_size, key_bytes, entry_bytes, entries_bytes, slot_bytes, platform_bytes, machine_bytes}
 use Rattle.model.specs.declared.IwKey.{IwKey}
@@ -16,15 +16,6 @@ use Rattle.model.specs.declared.Processor.{Processor}
 use Rattle.model.specs.declared.Slot.{Slot}
 use Rattle.model.specs.declared.Platform.{Platform}
 use Rattle.model.specs.declared.Machine.{Machine}
-
--- ---- bytes
-
--- invariant and measure, over the locals where the loop begins and now
-abbrev pub IsWriting : ℕ → List ℕ → ℕ → List ℕ → ℕ → List ℕ → ℕ → Type 0
-IsWriting n o at a i₀ l i = Writing n o at a l i
-
-abbrev pub unwritten : ℕ → List ℕ → ℕ → List ℕ → ℕ → List ℕ → ℕ → ℕ
-unwritten n o at a i₀ l i = n - i
 
 -- ---- an IWKey, an entry, a place for an IWKey
 

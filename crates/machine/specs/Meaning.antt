@@ -1,15 +1,9 @@
--- What a call gives by value.
+-- What a call gives.
 -- Assumes nothing.
-use Rattle.model.specs.Calls as calls
-use Rattle.step.specs.Meaning.{answer_of}
-use Rattle.cpuid_model.specs.Calls as cpuid
-use Rattle.machine.specs.declared.Outcome.{Outcome}
-use Rattle.machine.specs.declared.Identified.{Identified}
+use Rattle.std.specs.Prelude.{Result, Ok, Err}
+use Rattle.refusal.specs.declared.Refusal.{Refusal}
 
--- the machine, answer and value of the model's call; the scope, "Turned back", has the numbers of the answers
-abbrev pub outcome_of : calls.Outcome → Outcome
-outcome_of o = record { machine = o.machine; answer = answer_of o.answer.number; value = o.answer.value }
-
--- the same of CPUID
-abbrev pub identified_of : cpuid.Identified → Identified
-identified_of i = record { answer = answer_of i.number; registers = i.registers }
+-- the value that a call gives, and what stands for it where the call is refused
+abbrev pub given : {A : Type 0} → A → Result A Refusal → A
+given d (Ok x) = x
+given d (Err e) = d

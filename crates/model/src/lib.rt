@@ -1,6 +1,8 @@
 // The emulated machine: its records. The definitions are in specs/, the laws in proofs/; the code is in `step` and `machine`.
 #![tactic(auto)]
 
+pub mod theorems;
+
 // Bits of the feature byte.
 pub const KEY_LOCKER: u8 = 0;
 
@@ -14,7 +16,7 @@ pub const NO_BACKUP: u8 = 4;
 
 pub const RANDOM_SOURCE: u8 = 5;
 
-// The scope, "Records". Flags are bytes, 0 or 1.
+// Flags are bytes, 0 or 1, and a slot has a presence byte. They stay so: a record by value has to hold what refusal 1 turns back.
 #[derive(Clone, Copy)]
 pub struct IwKey {
     pub integrity: [u8; 16],

@@ -1,5 +1,6 @@
 // Buffers that a call only reads may overlap. Each function lends parts of one region, which may have bytes in common, and the call's promise holds of them.
 // A buffer is region[from..to], with the first letter of its name before both. Nothing calls these functions: that they are proved is what they are for.
+// Two numbers and no Range: the promises speak of the part between them.
 #![tactic(auto)]
 
 ghost use Rattle.std.specs.Prelude.{◌≤◌, ◌-◌, length};

@@ -1,7 +1,8 @@
--- What the struct of this crate stands for.
+-- A processor and the platform as a write of a backup register leaves them.
 -- Assumes nothing.
 use Rattle.model.specs.Backup as backup
-use Rattle.platform.specs.declared.Copied.{Copied}
+use Rattle.model.specs.declared.Platform.{Platform}
+use Rattle.model.specs.declared.Processor.{Processor}
 
-abbrev pub copied_of : Copied → backup.Copied
-copied_of r = record { processor = r.processor; platform = r.platform }
+abbrev pub copied : Processor → Platform → backup.Copied
+copied e f = record { processor = e; platform = f }

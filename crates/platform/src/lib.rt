@@ -1,193 +1,136 @@
-// The scope, "Backup, sleep, reset": the backup registers over one processor and the platform, and what the persistent storage does.
+// The backup registers over one processor and the platform (Intel 343965-001US, chapter 4), and what the persistent storage does.
 #![tactic(auto)]
 
-ghost use Rattle.std.specs.Prelude.{◌≡◌, cond};
+ghost use Rattle.std.specs.Prelude.{◌≡◌};
 ghost use Rattle.model.specs.Records as records;
 ghost use Rattle.model.specs.Backup as backup;
-ghost use Rattle.platform.specs.Meaning.{copied_of};
+ghost use Rattle.platform.specs.Meaning.{copied};
 
 use model::{IwKey, Platform, Processor, Slot};
 
-// A processor and the platform after a write of a backup register.
-#[derive(Clone, Copy)]
-pub struct Copied {
-    pub processor: Processor,
-    pub platform: Platform,
-}
+/// The IWKey of a processor after power-on, and of a place that has none.
+pub const ZERO_KEY: IwKey = IwKey {
+    integrity: [0; 16],
+    encryption: [0; 32],
+    source: 0,
+    no_backup: 0,
+};
 
-fn with_copy_status(status: u8, e: Processor) -> Processor
-    ensures { result ≡ records.with_copy_status status e }
-{
-    let key = e.key;
-    Processor {
-        key,
-        copy_status: status,
-    }
-}
+pub const ABSENT: Slot = Slot {
+    present: 0,
+    key: ZERO_KEY,
+};
 
-// "Write 0xD91, bit 0 set": IWKeyBackup is not replaced while the storage is still at work on it.
-#[tactic(auto, using(bits::proofs::Choice::cond_on, bits::proofs::Choice::cond_off, crate::proofs::Copies::with_processor), unfolding(model::specs::Backup::copy_out))]
-fn copy_out(e: Processor, f: Platform) -> Copied
-    ensures { copied_of result ≡ backup.copy_out e f }
+// Entry and platform are lent each by itself, as parts of a machine; the other entries are nobody's business here.
+
+// Write of 0xD91, bit 0 set: the backup is not replaced while the storage is still at work on it.
+#[tactic(auto, unfolding(model::specs::Backup::copy_out))]
+fn copy_out(e: &mut Processor, f: &mut Platform)
+    ensures { copied e.new f.new ≡ backup.copy_out e.old f.old }
 {
-    let key = e.key;
-    if (key.no_backup == 1) | (f.pending == 1) {
-        return Copied {
-            processor: with_copy_status(0, e),
-            platform: f,
+    if e.key.no_backup == 1 || f.pending == 1 {
+        e.copy_status = 0;
+    } else {
+        f.backup = Slot {
+            present: 1,
+            key: e.key,
         };
-    }
-    let backup = Slot { present: 1, key };
-    let mut platform = f;
-    platform.backup = backup;
-    platform.pending = 1;
-    platform.valid = 0;
-    platform.error = 0;
-    platform.consumed = 0;
-    Copied {
-        processor: with_copy_status(1, e),
-        platform,
+        f.pending = 1;
+        f.valid = 0;
+        f.error = 0;
+        f.consumed = 0;
+        e.copy_status = 1;
     }
 }
 
-// "Write 0xD92, bit 0 set: fails (copy status 0) if backup is absent"
-#[tactic(auto, using(bits::proofs::Choice::cond_on, bits::proofs::Choice::cond_off, crate::proofs::Copies::with_processor), unfolding(model::specs::Backup::copy_in))]
-fn copy_in(e: Processor, f: Platform) -> Copied
-    ensures { copied_of result ≡ backup.copy_in e f }
+// Write of 0xD92, bit 0 set: without a backup it fails, and the copy status says so.
+#[tactic(auto, unfolding(model::specs::Backup::copy_in))]
+fn copy_in(e: &mut Processor, f: &Platform)
+    ensures { copied e.new f.now ≡ backup.copy_in e.old f.now }
 {
-    let backup = f.backup;
-    if backup.present == 1 {
-        let key = backup.key;
-        return Copied {
-            processor: Processor {
-                key,
-                copy_status: 1,
-            },
-            platform: f,
-        };
+    if f.backup.present == 1 {
+        e.key = f.backup.key;
     }
-    Copied {
-        processor: with_copy_status(0, e),
-        platform: f,
-    }
+    e.copy_status = u8::from(f.backup.present == 1);
 }
 
-// "Writing 0 does nothing."
-pub fn write_register(address: u32, value: u64, e: Processor, f: Platform) -> Copied
-    ensures { copied_of result ≡ backup.written address value e f }
+/// A write with bit 0 clear does nothing. Addresses stay numbers, here and below: they are Intel's, and the promises are of every one.
+pub fn write_register(e: &mut Processor, f: &mut Platform, address: u32, value: u64)
+    ensures { copied e.new f.new ≡ backup.written address value e.old f.old }
 {
     if value % 2 == 1 {
         if address == 0xD91 {
-            return copy_out(e, f);
+            copy_out(e, f);
+        } else {
+            copy_in(e, f);
         }
-        return copy_in(e, f);
-    }
-    Copied {
-        processor: e,
-        platform: f,
     }
 }
 
-// "Read 0x990": IA32_COPY_STATUS. "Read 0x991": IA32_IWKEYBACKUP_STATUS, "valid in bit 0, error 2, consumed 3".
-pub fn read_register(address: u32, e: Processor, f: Platform) -> u64
-    ensures { result ≡ backup.register_read address e f }
+/// 0x990 is IA32_COPY_STATUS, 0x991 IA32_IWKEYBACKUP_STATUS: valid in bit 0, error in bit 2, consumed in bit 3.
+pub fn read_register(e: &Processor, f: &Platform, address: u32) -> u64
+    ensures { result ≡ backup.register_read address e.now f.now }
 {
     if address == 0x990 {
-        return e.copy_status as u64;
+        return u64::from(e.copy_status);
     }
-    f.valid as u64 + 4 * (f.error as u64) + 8 * (f.consumed as u64)
+    u64::from(f.valid) + 4 * u64::from(f.error) + 8 * u64::from(f.consumed)
 }
 
-fn absent() -> Slot
-    ensures { result ≡ records.absent }
-{
-    Slot {
-        present: 0,
-        key: IwKey {
-            integrity: [0; 16],
-            encryption: [0; 32],
-            source: 0,
-            no_backup: 0,
-        },
-    }
-}
-
-// "settle (0 good, 1 bad) acts only when pending."
-#[tactic(auto, using(bits::proofs::Choice::cond_on, bits::proofs::Choice::cond_off), unfolding(model::specs::Backup::settled))]
-pub fn settle(code: u8, f: Platform) -> Platform
-    ensures { result ≡ backup.settled code f }
+/// The storage is done: good is 0, bad is 1 (a number, here and in `wake`: the promise is of every code). It matters only while it is pending.
+#[tactic(auto, unfolding(model::specs::Backup::settled))]
+pub fn settle(f: &mut Platform, code: u8)
+    ensures { f.new ≡ backup.settled code f.old }
 {
     if f.pending == 1 {
-        let backup = f.backup;
-        if code == 0 {
-            return Platform {
-                backup,
-                store: backup,
-                pending: 0,
-                valid: 1,
-                error: 0,
-                consumed: 1,
-            };
-        }
-        return Platform {
-            backup,
-            store: absent(),
+        let good = code == 0;
+        *f = Platform {
+            store: if good { f.backup } else { ABSENT },
             pending: 0,
-            valid: 0,
-            error: 1,
+            valid: u8::from(good),
+            error: u8::from(!good),
             consumed: 1,
+            ..*f
         };
     }
-    f
 }
 
-// Change request (v): the platform has taken IWKeyBackup, and its storage is still at work on it.
-#[tactic(auto, using(bits::proofs::Choice::cond_on, bits::proofs::Choice::cond_off), unfolding(model::specs::Backup::with_taken))]
-pub fn note_taken(f: Platform) -> Platform
-    ensures { result ≡ backup.with_taken f }
+/// The platform has taken the backup, and its storage is still at work on it.
+#[tactic(auto, unfolding(model::specs::Backup::with_taken))]
+pub fn note_taken(f: &mut Platform)
+    ensures { f.new ≡ backup.with_taken f.old }
 {
     if f.pending != 1 {
-        return f;
+        return;
     }
-    let mut platform = f;
-    platform.consumed = 1;
-    platform
+    f.consumed = 1;
 }
 
-// "If pending, the store becomes what it was, the backup, or junk; if not, only code 2 alters it." Junk is an absent store.
-fn store_kept(code: u8, f: Platform) -> Slot
-    ensures { result ≡ backup.store_kept code f }
+// What the store holds after a sleep: if pending, what it was, the backup, or junk; if not, only code 2 alters it. Junk is an absent store.
+fn store_kept(f: &Platform, code: u8) -> Slot
+    ensures { result ≡ backup.store_kept code f.now }
 {
     if code == 2 {
-        return absent();
+        ABSENT
+    } else if code == 1 && f.pending == 1 {
+        f.backup
+    } else {
+        f.store
     }
-    if (code == 1) & (f.pending == 1) {
-        return f.backup;
-    }
-    f.store
 }
 
-fn one_if(b: bool) -> u8
-    ensures { result ≡ cond b 1 0 }
-{
-    if b {
-        return 1;
-    }
-    0
-}
-
-// "Else backup := store, error 0, valid 1 exactly if present. Pending 0."
+/// After a wake the backup is what the store kept.
 #[tactic(auto, unfolding(model::specs::Backup::woken))]
-pub fn wake(code: u8, f: Platform) -> Platform
-    ensures { result ≡ backup.woken code f }
+pub fn wake(f: &mut Platform, code: u8)
+    ensures { f.new ≡ backup.woken code f.old }
 {
-    let kept = store_kept(code, f);
-    Platform {
+    let kept = store_kept(f, code);
+    *f = Platform {
         backup: kept,
         store: kept,
         pending: 0,
-        valid: one_if(kept.present == 1),
-        error: one_if(code == 2),
+        valid: u8::from(kept.present == 1),
+        error: u8::from(code == 2),
         consumed: 0,
-    }
+    };
 }

@@ -7,7 +7,7 @@ use native.Mathlib.Nat.{add-mul, mul_comm, mul_assoc, mod-lt, div-one, div-eq_of
 use native.Mathlib.Omega.{arith}
 use lib.Bits.{bit_xor, xor_shifted}
 use lib.Dec.{lit<}
-use lib.ListN.{length, get_or, set, replicate, length-set}
+use lib.ListN.{length, set, replicate}
 use lib.Pow.{pow_mono, pow-add, mod-pow-add, shr-shr, shr_le, split, shl_lt}
 use lib.Seq.{get_or-set_same, get_or-set_other}
 use borrow.Author.Count.{below_more}
@@ -16,47 +16,31 @@ use Rattle.bits.proofs.Xor.{no_bit}
 use Rattle.bits.proofs.Field.{times_zero, times-one, times_shift, times_xor_right, power-add, power_shift, power-times}
 use Rattle.rfc8452.specs.Field.{add, times_x, times_x_to, multiply, dot}
 use Rattle.rfc8452.proofs.Field.{gf128, dot_is}
+use Rattle.polyval.specs.Meaning.{num, at, first, Multiples, MultiplesTable}
+use Rattle.polyval.specs.declared.field.Element.{Element}
 use Rattle.polyval.proofs.Halves.{xor_halves, halves_lt, spread}
 use Rattle.polyval.proofs.Reduction.{carried}
 
 -- ---- the table
 
--- entry u of a table
-abbrev pub at : List ℕ → ℕ → ℕ
-at t u = get_or t (2 * u + 1) 0 * 2 ^ 64 + get_or t (2 * u) 0
-
-abbrev pub put : List ℕ → ℕ → ℕ → ℕ → List ℕ
-put t v lo hi = set (set t (2 * v) lo) (2 * v + 1) hi
-
-put_same : (t : List ℕ) (v lo hi : ℕ) → 2 * v + 1 < length t → at (put t v lo hi) v ≡ hi * 2 ^ 64 + lo
-put_same t v lo hi h =
-    let l : 2 * v < length t = omega arith in
-    ap₂ (λ (x y : ℕ). x * 2 ^ 64 + y)
-    (get_or-set_same (set t (2 * v) lo) (2 * v + 1) hi 0 (subst (λ (n : ℕ). 2 * v + 1 < n) (sym (length-set t (2 * v) lo)) h))
-    (get_or-set_other (set t (2 * v) lo) (2 * v + 1) (2 * v) hi 0 (λ e. omega arith) ∙ get_or-set_same t (2 * v) lo 0 l)
-
-put_other : (t : List ℕ) (v lo hi u : ℕ) → u < v → at (put t v lo hi) u ≡ at t u
-put_other t v lo hi u h =
-    ap₂ (λ (x y : ℕ). x * 2 ^ 64 + y)
-    (get_or-set_other (set t (2 * v) lo) (2 * v + 1) (2 * u + 1) hi 0 (λ e. omega arith) ∙ get_or-set_other t (2 * v) (2 * u + 1) lo 0 (λ e. omega arith))
-    (get_or-set_other (set t (2 * v) lo) (2 * v + 1) (2 * u) hi 0 (λ e. omega arith) ∙ get_or-set_other t (2 * v) (2 * u) lo 0 (λ e. omega arith))
-
-pub put-length : (t : List ℕ) (v lo hi : ℕ) → length (put t v lo hi) ≡ length t
-put-length t v lo hi = length-set (set t (2 * v) lo) (2 * v + 1) hi ∙ length-set t (2 * v) lo
-
 -- the entries below v are multiples of h
-abbrev pub Below : ℕ → ℕ → List ℕ → Type 0
+abbrev pub Below : ℕ → ℕ → List Element → Type 0
 Below h v t = (u : ℕ) → u < v → at t u ≡ multiply h u
 
-pub one_more : (h v : ℕ) (t : List ℕ) (lo hi : ℕ) → 2 * v + 1 < length t → Below h v t → hi * 2 ^ 64 + lo ≡ multiply h v → Below h (v + 1) (put t v lo hi)
-one_more h v t lo hi l old new =
-    below_more (λ u. at (put t v lo hi) u ≡ multiply h u) v (λ u p. put_other t v lo hi u p ∙ old u p) (put_same t v lo hi l ∙ new)
+pub one_more : (h v : ℕ) (t : List Element) (e : Element) → v < length t → Below h v t → num e ≡ multiply h v → Below h (v + 1) (set t v e)
+one_more h v t e l old new =
+    below_more (λ u. at (set t v e) u ≡ multiply h u) v (λ u p. ap num (get_or-set_other t v u e _ (λ q. omega arith)) ∙ old u p) (ap num (get_or-set_same t v e _ l) ∙ new)
 
--- the first two entries
-pub first_two : (hi lo : ℕ) → hi * 2 ^ 64 + lo < 2 ^ 128 → Below (hi * 2 ^ 64 + lo) 2 (set (set (replicate 32 0) 2 lo) 3 hi)
-first_two hi lo l zero h = sym (times_zero gf128 (hi * 2 ^ 64 + lo))
-first_two hi lo l (suc zero) h = sym (times-one gf128 (hi * 2 ^ 64 + lo) l)
-first_two hi lo l (suc (suc u)) h = no_bit h
+-- the first two entries, and all of them
+pub first_two : (h : Element) → num h < 2 ^ 128 → Below (num h) 2 (set (replicate 16 (record { lo = 0; hi = 0 })) 1 h)
+first_two h l zero p = sym (times_zero gf128 (num h))
+first_two h l (suc zero) p = sym (times-one gf128 (num h) l)
+first_two h l (suc (suc u)) p = no_bit p
+
+pub whole : (h : Element) (t : List Element) → num h < 2 ^ 128 → Below (num h) 16 t → (first t ≡ num h) × MultiplesTable t
+whole h t l all =
+    let one : first t ≡ num h = all 1 (lit< tt) ∙ times-one gf128 (num h) l in
+    (one, (subst (λ (n : ℕ). n < 2 ^ 128) (sym one) l, subst (λ (n : ℕ). Multiples n t) (sym one) all))
 
 -- the multiples by 2 i and 2 i + 1 from that by i
 pub even : (h i : ℕ) → h < 2 ^ 128 → i < 8 → multiply h (2 * i) ≡ times_x (multiply h i)
@@ -106,9 +90,10 @@ module _ (hi lo s : ℕ) (p : hi < 2 ^ 64) (q : lo < 2 ^ 64) where
   up_lt : (x : ℕ) → x < 2 ^ 64 → x / 2 ^ (s + 8) * 2 ^ 8 < 2 ^ 64
   up_lt x l = subst (λ (a : ℕ). a * 2 ^ 8 < 2 ^ 64) (shr-shr x s 8) (lt_of_le_of_lt (div-mul-le_self (x / 2 ^ s) (2 ^ 8)) (lt_of_le_of_lt (shr_le x s) l))
 
-  pub horner : (h v n m : ℕ) → h < 2 ^ 128 → v ≡ multiply h (down hi lo (s + 8)) → n ≡ multiply h (hi / 2 ^ s % 256) → m ≡ multiply h (lo / 2 ^ s % 256)
+  pub horner : (h v n m u : ℕ) → u ≡ s + 8 → h < 2 ^ 128 → v ≡ multiply h (down hi lo u) → n ≡ multiply h (hi / 2 ^ s % 256) → m ≡ multiply h (lo / 2 ^ s % 256)
       → add (times_x_to 8 v) (add (times_x_to 64 n) m) ≡ multiply h (down hi lo s)
-  horner h v n m l e f g =
+  horner h v n m u place l start f g =
+      let e : v ≡ multiply h (down hi lo (s + 8)) = start ∙ ap (λ (k : ℕ). multiply h (down hi lo k)) place in
       let c = hi / 2 ^ s % 256 in
       let d = lo / 2 ^ s % 256 in
       let a = hi / 2 ^ (s + 8) * 2 ^ 8 in
@@ -123,10 +108,10 @@ module _ (hi lo s : ℕ) (p : hi < 2 ^ 64) (q : lo < 2 ^ 64) where
       ∙ ap (multiply h) (sym (xor_halves a b c d (up_lt lo q) ld) ∙ ap₂ (λ (x y : ℕ). x * 2 ^ 64 + y) (byte_more hi) (byte_more lo))
 
 -- the fourth word stays small
-pub fourth_word : (w3 t s : ℕ) → t < 256 → (w3 + 1) * 2 ^ (s + 8) ≤ 2 ^ 64 → (w3 * 256 + t + 1) * 2 ^ s ≤ 2 ^ 64
-fourth_word w3 t s h l =
-    let e : (w3 + 1) * 2 ^ (s + 8) ≡ (w3 * 256 + 256) * 2 ^ s =
-    ap (λ (n : ℕ). (w3 + 1) * n) (pow-add 2 s 8 ∙ mul_comm (2 ^ s) 256) ∙ sym (mul_assoc (w3 + 1) 256 (2 ^ s)) ∙ ap (λ (n : ℕ). n * 2 ^ s) (add-mul w3 1 256) in
+pub fourth_word : (w3 t s u : ℕ) → u ≡ s + 8 → t < 256 → (w3 + 1) * 2 ^ u ≤ 2 ^ 64 → (w3 * 256 + t + 1) * 2 ^ s ≤ 2 ^ 64
+fourth_word w3 t s u place h l =
+    let e : (w3 + 1) * 2 ^ u ≡ (w3 * 256 + 256) * 2 ^ s =
+    ap (λ (n : ℕ). (w3 + 1) * n) (ap (λ (n : ℕ). 2 ^ n) place ∙ pow-add 2 s 8 ∙ mul_comm (2 ^ s) 256) ∙ sym (mul_assoc (w3 + 1) 256 (2 ^ s)) ∙ ap (λ (n : ℕ). n * 2 ^ s) (add-mul w3 1 256) in
     le_trans (mul-le-mul_right (2 ^ s) (omega arith)) (subst (λ (n : ℕ). n ≤ 2 ^ 64) e l)
 
 pub fourth_fits : (w3 s : ℕ) → 8 ≤ s → (w3 + 1) * 2 ^ s ≤ 2 ^ 64 → w3 * 256 < 2 ^ 64

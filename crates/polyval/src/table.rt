@@ -1,43 +1,48 @@
-// The multiples of an element by four bits, as a product looks them up.
-ghost use Rattle.std.specs.Prelude.{◌≡◌, ◌+◌, ◌*◌, ◌^◌, ◌%◌, ◌<◌, get_or, set};
-ghost use Rattle.polyval.specs.Meaning.{num, first, MultiplesTable};
+// The tables of a hash key: its multiples by four bits, as a product looks them up.
+ghost use Rattle.std.specs.Prelude.{◌≡◌, ◌%◌};
+ghost use Rattle.rfc8452.specs.Field as rfc;
+ghost use Rattle.polyval.specs.Meaning.{num, first, MultiplesTable, ByteTables};
 
-use crate::Element;
-use crate::field::{add, times_x};
+use crate::field::Element;
 
-// The entry of the low four bits of x.
-pub(crate) fn entry(multiples: &[u64; 32], x: u64) -> Element
-    ensures { num result ≡ get_or multiples.now (2 * (x % 16) + 1) 0 * 2 ^ 64 + get_or multiples.now (2 * (x % 16)) 0 }
-{
-    let u = (x % 16) as usize;
-    Element {
-        lo: multiples[2 * u],
-        hi: multiples[2 * u + 1],
-    }
-}
-
-fn put_entry(multiples: &mut [u64; 32], u: usize, e: Element)
-    requires { u < 16 }
-    ensures { multiples.new ≡ set (set multiples.old (2 * u) e.lo) (2 * u + 1) e.hi }
-{
-    multiples[2 * u] = e.lo;
-    multiples[2 * u + 1] = e.hi;
-}
-
-// The table of h.
-#[tactic(auto, using(rfc8452::proofs::Field::gf128, crate::proofs::Halves::halves_lt, crate::proofs::Windows::at, crate::proofs::Windows::Below, crate::proofs::Windows::put, crate::proofs::Windows::one_more, crate::proofs::Windows::first_two, crate::proofs::Windows::even, crate::proofs::Windows::odd))]
-pub(crate) fn multiples(h: Element) -> [u64; 32]
+// The multiples of h by the sixteen polynomials of degree below 4. By index: an entry is made of one that is written before it.
+#[tactic(auto, using(crate::proofs::Windows::first_two, crate::proofs::Windows::whole))]
+fn multiples(h: Element) -> [Element; 16]
     ensures { (first result ≡ num h) × MultiplesTable result }
 {
-    let mut table = [0u64; 32];
-    table[2] = h.lo;
-    table[3] = h.hi;
-    let mut i: usize = 1;
-    while i < 8 {
-        let even = times_x(entry(&table, i as u64));
-        put_entry(&mut table, 2 * i, even);
-        put_entry(&mut table, 2 * i + 1, add(even, h));
-        i += 1;
+    let mut table = [Element::ZERO; 16];
+    table[1] = h;
+    for i in 1..8usize {
+        let even = table[i].times_x();
+        table[2 * i] = even;
+        table[2 * i + 1] = even + h;
     }
     table
+}
+
+// A hash key, for products by it: `low` has its multiples by the low four bits of a byte, `high` those by the high four.
+#[derive(Drop)]
+pub(crate) struct KeyTables {
+    low: [Element; 16],
+    high: [Element; 16],
+    ghost multiples: { ByteTables low high },
+}
+
+impl KeyTables {
+    pub(crate) fn new(h: Element) -> KeyTables
+        ensures { first result.low ≡ num h }
+    {
+        KeyTables {
+            low: multiples(h),
+            high: multiples(h.times_x4()),
+        }
+    }
+
+    // The product of the key and the low byte of x.
+    #[tactic(auto, using(crate::proofs::Windows::by_byte))]
+    pub(crate) fn times_byte(&self, x: u64) -> Element
+        ensures { num result ≡ rfc.multiply (first self.now.low) (x % 256) }
+    {
+        self.high[(x >> 4) as usize % 16] + self.low[x as usize % 16]
+    }
 }

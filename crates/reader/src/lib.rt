@@ -2,52 +2,32 @@
 #![tactic(auto)]
 
 ghost use Rattle.std.specs.Prelude.{◌≡◌};
+ghost use Rattle.decoder.specs.Read.{behind, decoded_of};
 ghost use Rattle.isa.specs.Decode as isa;
-ghost use Rattle.reader.specs.Read.{behind};
 
-use decoder::decode_at;
-use isa::Decoded;
+pub use decoder::Found;
+pub use modrm::{Malformed, Reader};
 
-// The instruction string and the place up to which it was read.
-#[derive(Clone, Copy)]
-pub struct Reader<'a> {
-    pub string: &'a [u8],
-    pub at: usize,
-}
-
-fn place_behind(d: Decoded, at: usize) -> usize
-    ensures { result ≡ behind d at }
-{
-    match d {
-        Decoded::Found { what, lock, next } => next,
-        Decoded::BadByte => at,
-        Decoded::EndOfString => at,
-        Decoded::Empty => at,
-    }
-}
-
-pub fn start<'a>(string: &'a [u8]) -> Reader<'a>
+/// A reader at the start of a string.
+pub fn start(string: &[u8]) -> Reader<'_>
     ensures { (result.string ≡ string.entry) × (result.at ≡ 0) }
 {
     Reader { string, at: 0 }
 }
 
-// Reads the instruction at the reader's place. The reader then stands behind it; a refused read, and one at the string's end, leave it where it was.
-pub fn read<'s, 'a>(r: &'s mut Reader<'a>) -> Decoded
-    ensures { (result ≡ isa.decode_at r.old.string.now r.old.at)
-        × ((r.new.string ≡ r.old.string) × (r.new.at ≡ behind result r.old.at)) }
+/// The instruction at the reader's place; none at the string's end. The reader then stands behind it; a refused read, and one at the string's end, leave it
+/// where it was.
+pub fn read(reader: &mut Reader) -> Result<Option<Found>, Malformed>
+    ensures value { decoded_of result ≡ isa.decode_at reader.old.string.now reader.old.at }
+    ensures string { reader.new.string ≡ reader.old.string }
+    ensures place { reader.new.at ≡ behind (decoded_of result) reader.old.at }
 {
-    let at = r.at;
-    let d = decode_at(r.string, at);
-    let next = place_behind(d, at);
-    r.at = next;
-    d
+    decoder::decode(reader)
 }
 
-// The instruction that a string begins with.
-pub fn decode(s: &[u8]) -> Decoded
-    ensures { result ≡ isa.decode s.now }
+/// The instruction that a string begins with; none if it has no byte.
+pub fn decode(string: &[u8]) -> Result<Option<Found>, Malformed>
+    ensures { decoded_of result ≡ isa.decode string.now }
 {
-    let mut r = start(s);
-    read(&mut r)
+    read(&mut start(string))
 }

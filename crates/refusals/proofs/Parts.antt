@@ -1,37 +1,45 @@
--- The model's list of tests in parts, each over what it depends on: what `between` leaves of it.
+-- The list of a step's tests is its parts in turn.
 -- Assumes nothing.
-use mathlib.Core.Bool.{Bool, true, false, not}
-use mathlib.Core.List.{List, [], ◌∷◌}
-use Prim.Native.Nat.{ℕ}
-use lib.Dec.{ltb}
-use Rattle.fips197.specs.declared.KeySize.{KeySize}
-use Rattle.isa.specs.declared.Address.{Address}
-use Rattle.isa.specs.declared.Instruction.{Instruction}
-use Rattle.isa.specs.declared.Instruction.TheVariants as instruction
-use Rattle.model.specs.Cpu.{register, control, bad_record}
-use Rattle.model.specs.Forms.{register_of, handle_address}
-use Rattle.model.specs.Refusals.{Test, test, memory_limit, random_length, needs_firmware, needs_wide, invalid_opcode, no_math, canonical_fault, outside, load_fault, encode_fault}
+use Rattle.std.proofs.Common.{◌≡◌, ℕ, Bool, true, false, cond, not, List, [], ◌∷◌, ◌++◌, length, eqb, leb, refl, arith}
+use Rattle.std.proofs.Math.Bool.{or-false}
+use Rattle.isa.specs.declared.Decoded.{Decoded}
+use Rattle.isa.specs.declared.Decoded.TheVariants as decoded
+use Rattle.model.specs.Cpu.{cpu_size, bad_record}
+use Rattle.model.specs.Refusals.{View, Asked, test, first, tests, step_refusal}
+use Rattle.refusal.specs.Numbers.{number_of}
+use Rattle.refusal.specs.declared.Refusal.{Refusal}
+use Rattle.refusals.specs.Parts.{record_tests, length_tests, lent_tests, string_tests}
 
--- 12 to 14 for a handle at an address
-abbrev pub handle_tests : ℕ → Address → KeySize → List Test
-handle_tests memory a size =
-    test 12 (canonical_fault false a size) ∷ test 13 (canonical_fault true a size) ∷ test 14 (outside memory a size) ∷ []
+pub in_parts : (v : View) (a : Asked)
+    → step_refusal v a ≡ first (lent_tests v.count a.processor a.cpu a.memory a.random ++ string_tests v.features a.cpu a.memory a.decoded)
+unfolding tests
+in_parts v a = go a.decoded
+  where
+    go : (d : Decoded)
+        → step_refusal v (record { processor = a.processor; cpu = a.cpu; memory = a.memory; random = a.random; decoded = d })
+        ≡ first (lent_tests v.count a.processor a.cpu a.memory a.random ++ string_tests v.features a.cpu a.memory d)
+    go (decoded.Found what lock bytes) = simp or-false refl
+    go decoded.BadByte = refl
+    go decoded.EndOfString = refl
+    go decoded.Empty = refl
 
--- 12 to 14 for an instruction: LOADIWKEY and ENCODEKEY read no handle
-abbrev pub operand_tests : ℕ → List ℕ → ℕ → Instruction → ℕ → List Test
-operand_tests features cpu memory (instruction.Use u) bytes = handle_tests memory (handle_address cpu bytes u.handle) u.size
-operand_tests features cpu memory (instruction.WideUse u) bytes = handle_tests memory (handle_address cpu bytes u.handle) u.size
-operand_tests features cpu memory (instruction.LoadIwKey l) bytes = test 12 (load_fault features cpu) ∷ []
-operand_tests features cpu memory (instruction.EncodeKey e) bytes = test 12 (encode_fault (register (register_of e.source) cpu)) ∷ []
+-- ---- 3 to 7, where 4 and 5 are asked together
 
--- 10 to 14
-abbrev pub instruction_tests : ℕ → List ℕ → ℕ → Instruction → Bool → ℕ → List Test
-instruction_tests features cpu memory what lock bytes =
-    test 10 (invalid_opcode features (control cpu) lock (needs_firmware what) (needs_wide what))
-    ∷ test 11 (no_math (control cpu))
-    ∷ operand_tests features cpu memory what bytes
+decided : (a b c : Bool) (x : ℕ) (e : Refusal) → ◌≡◌ {A = ℕ} 0 (cond a 3 0) → number_of e ≡ cond b 4 (cond c 5 0) → number_of e ≡ cond a 3 (cond b 4 (cond c 5 x))
+decided true b c x e z h = absurd (omega arith)
+decided false true c x e z h = h
+decided false false true x e z h = h
+decided false false false x e z h = grind arith
 
--- 5 to 7, over the lengths of guest memory and random data
-abbrev pub record_tests : List ℕ → ℕ → ℕ → List Test
-record_tests cpu memory random =
-    test 5 (bad_record cpu) ∷ test 6 (ltb memory_limit memory) ∷ test 7 (not (random_length random)) ∷ []
+passed : (a b c : Bool) (x n : ℕ) → ◌≡◌ {A = ℕ} 0 (cond a 3 0) → ◌≡◌ {A = ℕ} 0 (cond b 4 (cond c 5 0)) → n ≡ x → n ≡ cond a 3 (cond b 4 (cond c 5 x))
+passed true b c x n z h q = absurd (omega arith)
+passed false true c x n z h q = absurd (omega arith)
+passed false false true x n z h q = absurd (omega arith)
+passed false false false x n z h q = q
+
+module _ (count processor : ℕ) (cpu : List ℕ) (memory random : ℕ) (z : ◌≡◌ {A = ℕ} 0 (first (test 3 (leb count processor) ∷ []))) where
+  pub by_record : (e : Refusal) → number_of e ≡ first (record_tests cpu) → number_of e ≡ first (lent_tests count processor cpu memory random)
+  by_record e h = decided (leb count processor) (not (eqb (length cpu) cpu_size)) (bad_record cpu) (first (length_tests memory random)) e z h
+
+  pub past_record : (n : ℕ) → ◌≡◌ {A = ℕ} 0 (first (record_tests cpu)) → n ≡ first (length_tests memory random) → n ≡ first (lent_tests count processor cpu memory random)
+  past_record n h q = passed (leb count processor) (not (eqb (length cpu) cpu_size)) (bad_record cpu) (first (length_tests memory random)) n z h q

@@ -2,7 +2,7 @@
 // their entry and lend it down.
 #![tactic(auto)]
 
-ghost use Rattle.fips197.specs.Sbox.{sbox, TableOf};
+ghost use Rattle.fips197.specs.Sbox.{SboxTable};
 
 pub mod inverse;
 
@@ -25,10 +25,17 @@ const SBOX: [u8; 256] = [
     0x8c, 0xa1, 0x89, 0x0d, 0xbf, 0xe6, 0x42, 0x68, 0x41, 0x99, 0x2d, 0x0f, 0xb0, 0x54, 0xbb, 0x16,
 ];
 
-// Inlined, it would put a copy of the S-box into each C function that uses it.
-#[inline(never)]
-pub fn sbox_table() -> [u8; 256]
-    ensures { TableOf sbox result }
-{
-    SBOX
+/// The S-box as a table of 256 bytes. Make it a local once, and lend it.
+#[derive(Clone, Copy)]
+pub struct Sbox {
+    pub table: [u8; 256],
+    ghost is_sbox: { SboxTable table },
+}
+
+impl Sbox {
+    // Inlined, it would put a copy of the S-box into each C function that uses it.
+    #[inline(never)]
+    pub fn new() -> Self {
+        Sbox { table: SBOX }
+    }
 }

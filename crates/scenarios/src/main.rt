@@ -1,26 +1,28 @@
-// Calls of the emulated machine through the proved code, by value: each line of standard input is a call, and is answered by one line.
+// Calls of the emulated machine through the proved code: each line of standard input is a call, and is answered by one line.
 #![tactic(auto)]
 
 mod call;
-mod counter_call;
+mod run;
 
-ghost use Rattle.std.specs.Prelude.{◌≡◌, length};
-
-use line::read_full;
+use call::Call;
+use line::{Line, read_full};
 use std::io;
 use std::io::{BufWriter, Write};
 
 // How many characters are read at most.
-fn room() -> [u8; 196608]
-    ensures { 196608 ≡ length result }
-{
-    [0; 196608]
-}
+const ROOM: usize = 196_608;
 
+// All is read before the first answer, into fixed memory: a Vec could run out where nothing could before.
 fn main(rt: HostRuntime) -> io::Result<()> {
-    let mut text = room();
-    let n = read_full(&mut rt.stdin(), &mut text)?;
+    let mut input = [0u8; ROOM];
+    let n = read_full(&mut rt.stdin(), &mut input)?;
     let mut out = BufWriter::new(rt.alloc(), io::writer(&rt))?;
-    call::all(&mut out, &text[..n])?;
+    let mut machine = machine::power_on(0, 0).machine;
+    for text in input[..n].split_inclusive(|&c| c == b'\n') {
+        let text = text.strip_suffix(b"\n").unwrap_or(text);
+        let Line { name, bytes } = Line::from(text);
+        out.write_all(name)?;
+        run::run(&mut out, &mut machine, &Call { bytes })?;
+    }
     out.flush()
 }

@@ -1,2 +1,4 @@
 // NIST SP 800-38A's Counter mode as definitions and theorems: no code.
 #![tactic(auto)]
+
+pub mod theorems;

@@ -1,106 +1,152 @@
--- A step, by value.
+-- A step, by its tests in turn.
 -- Assumes nothing.
-use mathlib.Core.Path.{◌≡◌, ◌∙◌, refl, sym, ap, ap₂}
-use mathlib.Core.Bool.{Bool, true, ◌||◌}
-use mathlib.Core.List.{List, []}
-use mathlib.Core.Option.{some}
-use Prim.Native.Nat.{ℕ, ◌%◌}
-use native.Mathlib.Omega.{arith}
-use lib.Dec.{eqb}
-use lib.ListN.{length, get_or, set}
-use lib.Seq.{set-get_or}
-use borrow.Author.Tests.{eqb-true, eq-eqb, ne_eqb}
+use Rattle.std.proofs.Common.{◌≡◌, ◌≢◌, ◌∙◌, ℕ, ◌+◌, ◌%◌, ◌≤◌, Bool, true, false, cond, not, List, [], length, get_or, eqb, ltb, leb, refl, sym, ap, ap₂, subst, arith}
+use Rattle.std.specs.Prelude.{Option, Some, None, MatchOption}
+use Rattle.std.proofs.lemmas.List.{nil_from_length}
+use denote.Ref.{Bor}
+use Rattle.std.specs.Array.{IsWholeChunk}
+use Rattle.loadiwkey.specs.Meaning.{random_data}
 use Rattle.bits.proofs.Choice.{cond_on, cond_off, true-T}
+use Rattle.decoder.specs.Read.{turned_back}
+use borrow.Author.Tests.{not-false}
+use Rattle.instructions.specs.Meaning.{Within}
 use Rattle.isa.specs.Decode.{decode}
+use Rattle.isa.specs.Ranges.{handle_length}
 use Rattle.isa.specs.declared.Decoded.{Decoded}
-use Rattle.isa.specs.declared.Decoded.TheVariants as decoded
 use Rattle.isa.specs.declared.Instruction.{Instruction}
-use Rattle.model.specs.Calls.{StepCall, Call, step}
-use Rattle.model.specs.Records.{processor_at, no_processor, with_key, with_processors, with_processor}
-use Rattle.model.specs.Validity.{valid}
-use Rattle.model.specs.Refusals.{View, random_length, operands, step_refusal, refusal}
-use Rattle.model.specs.Forms.{Form, form_of, handle_address}
+use Rattle.isa.specs.declared.Decoded.TheVariants as decoded
+use Rattle.modrm.specs.Read.{refusal_of}
+use Rattle.modrm.specs.declared.Malformed.{Malformed}
+use Rattle.modrm.specs.declared.Malformed.TheVariants as malformed
+use Rattle.model.specs.Calls.{StepCall, step}
+use Rattle.model.specs.Cpu.{cpu_size, bad_record}
+use Rattle.model.specs.Execution as execution
+use Rattle.model.specs.Execution.{view_of, perform, call}
+use Rattle.model.specs.Forms.{form_of, handle_address}
 use Rattle.model.specs.Instructions.{Executed, stepped, executed}
-use Rattle.model.specs.Execution.{view_of, refused, perform, call}
-use Rattle.model.specs.declared.IwKey.{IwKey}
+use Rattle.model.specs.Records.{no_processor, with_key, with_processor}
+use Rattle.model.specs.Refusals.{asked, first, memory_limit, random_length, refusal}
+use Rattle.model.specs.Validity.{valid}
 use Rattle.model.specs.declared.Machine.{Machine}
-use Rattle.model.specs.declared.Processor.{Processor}
-use Rattle.model.proofs.Refusals.{processor_below, step-asked}
+use Rattle.model.proofs.Demand3.{handle_fits}
+use Rattle.model.proofs.Frames.{call_performed, call_stopped, accepted_parts}
+use Rattle.model.proofs.Refusals.{processor_below, random_length_lem, step-asked}
 use Rattle.model.proofs.Validities.{count_few}
-use Rattle.refusals.specs.Parts.{tested, loaded_from}
-use Rattle.refusals.specs.declared.Tested.{Tested}
-use Rattle.step.specs.Meaning.{Left, left, left_of}
-use Rattle.step.specs.declared.Answer.TheVariants.{Done, Refused}
-use Rattle.step.proofs.Ways.{performed}
+use Rattle.refusal.specs.Numbers.{number_of}
+use Rattle.refusal.specs.declared.Refusal.{Refusal}
+use Rattle.refusal.specs.declared.Refusal.TheVariants as refusals
+use Rattle.refusals.specs.Parts.{lent_tests, instruction_tests, string_tests, loaded_from}
+use Rattle.refusals.proofs.Parts.{in_parts}
+use Rattle.step.specs.Meaning.{left, left_of}
 
--- the refusal of a step, once its string is decoded
-pub step_told : (v : View) (s : StepCall) (n : ℕ) (d : Decoded)
-    → n ≡ step_refusal v (record { processor = s.processor; cpu = s.cpu; memory = length s.memory; random = length s.random; decoded = d })
-    → d ≡ decode s.string → n ≡ refusal v (step s)
-step_told v s n d e q =
-    e
-    ∙ ap (λ (x : Decoded). step_refusal v (record { processor = s.processor; cpu = s.cpu; memory = length s.memory; random = length s.random; decoded = x })) q
-    ∙ step-asked v s
+-- a refusal's number is not 0
+positive : (e : Refusal) → eqb (number_of e) 0 ≡ false
+positive e = grind arith
 
--- the processor of a call that is not refused has a number below 16
-pub below_16 : (m : Machine) (c : Call) (p : ℕ) → valid m ≡ true → refusal (view_of m) c ≡ 0 → (operands c).processor ≡ some p → p % 16 ≡ p
-below_16 m c p v a e =
-    let few = count_few m (true-T (valid m) v) in
-    let below = processor_below (view_of m) c p a e in
-    omega arith
+-- the first tests decide, or let the others
+split : (a b c d e : Bool) (x : ℕ)
+    → cond a 3 (cond b 4 (cond c 5 (cond d 6 (cond e 7 x)))) ≡ cond (eqb (cond a 3 (cond b 4 (cond c 5 (cond d 6 (cond e 7 0))))) 0) x (cond a 3 (cond b 4 (cond c 5 (cond d 6 (cond e 7 0)))))
+split true b c d e x = refl
+split false true c d e x = refl
+split false false true d e x = refl
+split false false false true e x = refl
+split false false false false true x = refl
+split false false false false false x = refl
 
--- ---- refused, or done
+decided : (e : Refusal) (n x : ℕ) → number_of e ≡ n → cond (eqb n 0) x n ≡ number_of e
+decided e n x h = rw (← h, positive e) refl
 
--- an entry put where it was
-same_entry : (m : Machine) (p : ℕ) (e : Processor) → e ≡ processor_at m p → with_processor p e m ≡ m
-same_entry m p e q = ap (λ (l : List Processor). with_processors l m) (ap (set m.processors p) q ∙ set-get_or m.processors p no_processor)
+passed : (n x : ℕ) → ◌≡◌ {A = ℕ} 0 n → cond (eqb n 0) x n ≡ x
+passed n x h = rw (← h) refl
 
-module _ (m : Machine) (s : StepCall) (e : Processor) (q : e ≡ get_or m.processors (s.processor % 16) no_processor) where
-  pub step-refused : (n : ℕ) → (n ≡ 0 → ⊥) → call m (step s) ≡ refused n m (step s)
-      → left (Refused n) (with_processor (s.processor % 16) e m) s.cpu ≡ left_of (call m (step s))
-  step-refused n h c =
-      (λ j. left (sym (cond_off (ne_eqb n 0 h) Done (Refused n)) j) (same_entry m (s.processor % 16) e q j) s.cpu) ∙ ap left_of (sym c)
+-- random data, lent as 48 bytes or none
+given : (o : Option (Bor (List ℕ))) (r : List ℕ) → random_length (length r) ≡ true → MatchOption o (length r ≢ 48) (λ y. IsWholeChunk r y.now 48) → random_data o ≡ r
+given None r t n = sym (nil_from_length r (grind arith))
+given (Some y) r t h = h.same
 
-  pub step_done : valid m ≡ true → refusal (view_of m) (step s) ≡ 0 → (x : Executed) → x ≡ executed s e.key
-      → left Done (with_processor (s.processor % 16) (with_key x.key e) m) x.cpu ≡ left_of (call m (step s))
-  unfolding perform
-  step_done v a x y =
-      let p = below_16 m (step s) s.processor v a refl in
-      let same : e ≡ processor_at m s.processor = q ∙ ap (λ (k : ℕ). get_or m.processors k no_processor) p in
-      let to : ℕ → Executed → Processor → Left = λ k z d. left Done (with_processor k (with_key z.key d) m) z.cpu in
-      ap₂ (λ (k : ℕ) (z : Executed). to k z e) p y
-      ∙ ap (λ (d : Processor). to s.processor (executed s d.key) d) same
-      ∙ sym (ap left_of (performed m (step s) v a))
+module _ (m : Machine) (s : StepCall) where
+  abbrev lent : ℕ
+  lent = first (lent_tests m.count s.processor s.cpu (length s.memory) (length s.random))
 
--- ---- what the tests gave
+  abbrev held : Decoded → ℕ
+  held d = first (string_tests m.features s.cpu (length s.memory) d)
 
--- a step that passes them loads its handle from where its operand says
-pub placed : (t : Tested) (n l : ℕ) (cpu : List ℕ) (what : Instruction) (bytes : ℕ) (f : Form) → t ≡ tested n l → t.number ≡ 0
-    → l ≡ loaded_from cpu bytes (form_of what) → form_of what ≡ some f → t.linear ≡ (handle_address cpu bytes f.handle).linear
-placed t n l cpu what bytes f e z p q =
-    ap (λ (x : Tested). x.linear) e
-    ∙ cond_on (ap (λ (x : Tested). eqb x.number 0) (sym e) ∙ eq-eqb t.number 0 z) l 0
-    ∙ p
-    ∙ ap (loaded_from cpu bytes) q
+  -- a call that is refused leaves machine and CPU record as they were
+  refused : (e : Refusal) → execution.number_of m (step s) ≡ number_of e → left (number_of e) m s.cpu ≡ left_of (call m (step s))
+  refused e h =
+      ap (λ (n : ℕ). left n m s.cpu) (sym h)
+      ∙ ap left_of (sym (call_stopped m (step s) (λ z. absurd (true-false (sym (ap (λ (n : ℕ). eqb n 0) (sym h ∙ z)) ∙ positive e)))))
+    where
+      true-false : true ≡ false → ⊥
+      true-false q = grind arith
 
--- ---- random data
+  pub not_valid : (e : Refusal) → e ≡ refusals.Machine → valid m ≡ false → left (number_of e) m s.cpu ≡ left_of (call m (step s))
+  not_valid e q v = refused e (cond_off v (refusal (view_of m) (step s)) 1 ∙ ap number_of (sym q))
 
-pub all_data : (n : ℕ) → random_length n ≡ true → (n ≡ 0 → ⊥) → n ≡ 48
-all_data n r h = eqb-true n 48 (sym (ap (λ (b : Bool). b || eqb n 48) (ne_eqb n 0 h)) ∙ r)
+  module _ {b : Bool} (q : b ≡ valid m) (v : not b ≡ false) where
+    is_valid : valid m ≡ true
+    is_valid = sym q ∙ not-false b v
 
--- ---- the instruction of a string
+    told : execution.number_of m (step s) ≡ cond (eqb lent 0) (held (decode s.string)) lent
+    told =
+        cond_on is_valid (refusal (view_of m) (step s)) 1
+        ∙ sym (step-asked (view_of m) s)
+        ∙ in_parts (view_of m) (asked s)
+        ∙ split (leb m.count s.processor) (not (eqb (length s.cpu) cpu_size)) (bad_record s.cpu) (ltb memory_limit (length s.memory))
+        (not (random_length (length s.random))) (held (decode s.string))
 
--- what a step reads, told by what was lent
-pub executed_as : (s : StepCall) (k : IwKey) (cpu random : List ℕ) (d : Decoded) → cpu ≡ s.cpu → random ≡ s.random → d ≡ decode s.string
-    → stepped (record { processor = 0; cpu = cpu; memory = s.memory; random = random; string = [] }) k d ≡ executed s k
-unfolding executed
-executed_as s k cpu random d p q e =
-    ap₂ (λ (c r : List ℕ). stepped (record { processor = 0; cpu = c; memory = s.memory; random = r; string = [] }) k d) p q
-    ∙ same d
-    ∙ ap (stepped s k) e
-  where
-    same : (d : Decoded) → stepped (record { processor = 0; cpu = s.cpu; memory = s.memory; random = s.random; string = [] }) k d ≡ stepped s k d
-    same (decoded.Found what lock bytes) = refl
-    same decoded.BadByte = refl
-    same decoded.EndOfString = refl
-    same decoded.Empty = refl
+    pub not_lent : (e : Refusal) → number_of e ≡ lent → left (number_of e) m s.cpu ≡ left_of (call m (step s))
+    not_lent e h = refused e (told ∙ decided e lent (held (decode s.string)) h)
+
+    module _ (z : ◌≡◌ {A = ℕ} 0 lent) where
+      behind : (d : Decoded) → d ≡ decode s.string → execution.number_of m (step s) ≡ held d
+      behind d h = told ∙ passed lent (held (decode s.string)) z ∙ ap held (sym h)
+
+      pub not_decoded : (e : Malformed) → turned_back e ≡ decode s.string → left (number_of (refusal_of e)) m s.cpu ≡ left_of (call m (step s))
+      not_decoded malformed.BadByte h = refused refusals.BadByte (behind decoded.BadByte h)
+      not_decoded malformed.EndOfString h = refused refusals.EndOfString (behind decoded.EndOfString h)
+
+      -- a step that nothing turns back, with the entry that it gives in its place
+      performed : execution.number_of m (step s) ≡ 0 → (x : Executed) → x ≡ executed s (get_or m.processors (s.processor % 16) no_processor).key
+          → left 0 (with_processor (s.processor % 16) (with_key x.key (get_or m.processors (s.processor % 16) no_processor)) m) x.cpu
+          ≡ left_of (call m (step s))
+      unfolding perform
+      performed h x y =
+          let few = count_few m (true-T (valid m) is_valid) in
+          let below = processor_below (view_of m) (step s) s.processor (accepted_parts m (step s) h).1 refl in
+          let p : s.processor % 16 ≡ s.processor = omega arith in
+          rw (y, p, call_performed m (step s) h) refl
+
+      pub idle : decoded.Empty ≡ decode s.string
+          → left 0 (with_processor (s.processor % 16) (get_or m.processors (s.processor % 16) no_processor) m) s.cpu ≡ left_of (call m (step s))
+      unfolding executed
+      idle h = performed (behind decoded.Empty h) _ (ap (stepped s (get_or m.processors (s.processor % 16) no_processor).key) h)
+
+      module _ (what : Instruction) (lock : Bool) (bytes : ℕ) (d : decoded.Found what lock bytes ≡ decode s.string) (cpu : List ℕ) (same : cpu ≡ s.cpu) where
+        pub not_executed : (e : Refusal) → number_of e ≡ first (instruction_tests m.features cpu (length s.memory) what lock bytes)
+            → left (number_of e) m cpu ≡ left_of (call m (step s))
+        not_executed e h =
+            ap (left (number_of e) m) same
+            ∙ refused e (behind (decoded.Found what lock bytes) d ∙ sym (h ∙ ap (λ (c : List ℕ). first (instruction_tests m.features c (length s.memory) what lock bytes)) same))
+
+        module _ (t : ◌≡◌ {A = ℕ} 0 (first (instruction_tests m.features cpu (length s.memory) what lock bytes))) where
+          accepted : execution.number_of m (step s) ≡ 0
+          accepted = behind (decoded.Found what lock bytes) d ∙ sym (t ∙ ap (λ (c : List ℕ). first (instruction_tests m.features c (length s.memory) what lock bytes)) same)
+
+          pub within : (at : ℕ) → at ≡ loaded_from cpu bytes (form_of what) → Within at (length s.memory) what
+          within at h f r =
+              let e : at ≡ (handle_address s.cpu bytes f.handle).linear = h ∙ ap (loaded_from cpu bytes) r ∙ ap (λ (c : List ℕ). (handle_address c bytes f.handle).linear) same in
+              subst (λ (n : ℕ). n + handle_length f.size ≤ length s.memory) (sym e)
+              (handle_fits (view_of m) s (accepted_parts m (step s) accepted).1 what lock bytes f (sym d) r)
+
+          pub done : (random : Option (Bor (List ℕ))) → MatchOption random (length s.random ≢ 48) (λ y. IsWholeChunk s.random y.now 48)
+              → (x : Executed)
+              → x ≡ stepped (record { processor = 0; cpu = cpu; memory = s.memory; random = random_data random; string = [] }) (get_or m.processors (s.processor % 16) no_processor).key (decoded.Found what lock bytes)
+              → left 0 (with_processor (s.processor % 16) (with_key x.key (get_or m.processors (s.processor % 16) no_processor)) m) x.cpu ≡ left_of (call m (step s))
+          unfolding executed
+          done random r x y =
+              let bytes_lent = given random s.random (random_length_lem (view_of m) s (accepted_parts m (step s) accepted).1) r in
+              performed accepted x
+              (y
+              ∙ ap₂ (λ (c l : List ℕ). stepped (record { processor = 0; cpu = c; memory = s.memory; random = l; string = [] }) (get_or m.processors (s.processor % 16) no_processor).key (decoded.Found what lock bytes)) same bytes_lent
+              ∙ ap (stepped s (get_or m.processors (s.processor % 16) no_processor).key) d)

@@ -1,30 +1,25 @@
--- What the answers of calls stand for, and what a step leaves.
+-- What a step leaves: the number of its refusal, or 0, the machine and the CPU record.
 -- Assumes nothing.
-use Rattle.std.specs.Prelude.{cond, List, ℕ, eqb}
+use Rattle.std.specs.Prelude.{List, ℕ, Result, Ok, Err}
 use Rattle.model.specs.Calls as calls
+use Rattle.model.specs.Records.{with_processor}
 use Rattle.model.specs.declared.Machine.{Machine}
-use Rattle.step.specs.declared.Answer.{Answer}
-use Rattle.step.specs.declared.Answer.TheVariants.{Done, Refused}
-
--- the scope, "Turned back": 0 where the call was not refused
-abbrev pub number_of : Answer → ℕ
-number_of Done = 0
-number_of (Refused n) = n
-
--- the scope, "Turned back": the answer of a number, 0 for none
-abbrev pub answer_of : ℕ → Answer
-answer_of n = cond (eqb n 0) Done (Refused n)
-
--- ---- what a step leaves: its answer, the machine and the CPU record
+use Rattle.model.specs.declared.Processor.{Processor}
+use Rattle.refusal.specs.declared.Refusal.{Refusal}
 
 pub record Left : Type 0 where
-  pub answer : Answer
+  pub number : ℕ
   pub machine : Machine
   pub cpu : List ℕ
 
-abbrev pub left : Answer → Machine → List ℕ → Left
-left a m c = record { answer = a; machine = m; cpu = c }
+abbrev pub left : ℕ → Machine → List ℕ → Left
+left n m c = record { number = n; machine = m; cpu = c }
 
--- what the model's call leaves; the scope, "Turned back", of one that is refused: "Each leaves machine, CPU record and memory unchanged"
+-- what the model's call leaves; one that is refused leaves machine and CPU record as they were
 abbrev pub left_of : calls.Outcome → Left
-left_of o = left (answer_of o.answer.number) o.machine o.answer.cpu
+left_of o = left o.answer.number o.machine o.answer.cpu
+
+-- the machine with the entry that a step of processor p gives in its place; as it was, where the step is refused
+abbrev pub machine_after : Machine → ℕ → Result Processor Refusal → Machine
+machine_after m p (Ok e) = with_processor p e m
+machine_after m p (Err why) = m

@@ -1,64 +1,29 @@
--- A test of every element of a list: what is tested, and what is left to test from index i on.
+-- A test over a list that does not stop early: what it says of one element more.
 -- Assumes nothing.
-use mathlib.Core.Path.{◌≡◌, ◌∙◌, sym, ap}
-use mathlib.Core.Bool.{Bool, ◌&&◌, and_assoc, and-true}
-use mathlib.Core.List.{List}
-use Prim.Native.Nat.{ℕ, ◌+◌, ◌-◌, ◌<◌, ◌≤◌}
-use native.Mathlib.Numerals.{add-one}
-use native.Mathlib.Omega.{arith}
-use lib.Dec.{eqb, ltb}
-use lib.ListN.{length, get_or, drop, drop_of_length-le}
-use lib.Seq.{drop-cons}
+use Rattle.std.proofs.Common.{◌≡◌, ◌&&◌, ◌∙◌, ◌+◌, ◌<◌, [], ◌∷◌, List, ℕ, zero, suc, Bool, length, get_or, take, eqb, ltb, sym, ap, add-zero, zero-add, arith}
+use Rattle.std.proofs.Math.Bool.{and-true, and_assoc}
 use Rattle.model.specs.Numbers.{all_zero}
 use Rattle.model.specs.Records.{no_processor}
 use Rattle.model.specs.Validity.{valid_processor, valid_processors}
 use Rattle.model.specs.declared.Processor.{Processor}
 
--- bytes
-zero_step : (a : List ℕ) (i : ℕ) → i < length a → all_zero (drop i a) ≡ eqb (get_or a i 0) 0 && all_zero (drop (i + 1) a)
-zero_step a i h = rw (add-one, drop-cons a i 0)
+pub zero_more : (s : List ℕ) (i : ℕ) → i < length s → all_zero (take (suc i) s) ≡ (all_zero (take i s) && eqb (get_or s i 0) 0)
+zero_more [] i h = absurd (omega arith)
+zero_more (x ∷ s) zero h = grind arith
+zero_more (x ∷ s) (suc i) h = grind (arith, zero_more s i (omega arith))
 
--- n bytes, and the test of those below i: with the rest it says the whole
-pub record Tested (n : ℕ) (a : List ℕ) (z : Bool) (i : ℕ) : Type 0 where
-  pub within : i ≤ n
-  pub size : length a ≡ n
-  pub both : z && all_zero (drop i a) ≡ all_zero a
-
--- invariant and measure, over the locals where the loop begins and now
-abbrev pub IsTesting : ℕ → List ℕ → Bool → ℕ → Bool → ℕ → Type 0
-IsTesting n a z₀ i₀ z i = Tested n a z i
-
-abbrev pub untested : ℕ → List ℕ → Bool → ℕ → Bool → ℕ → ℕ
-untested n a z₀ i₀ z i = n - i
-
-module _ {n : ℕ} {a : List ℕ} {z : Bool} {i : ℕ} (t : Tested n a z i) where
-  pub tested_more : i < n → Tested n a (z && eqb (get_or a i 0) 0) (i + 1)
-  tested_more h =
-      let l : i < length a = omega arith in
-      record {
-        within = omega arith;
-        size = t.size;
-        both =
-            and_assoc z (eqb (get_or a i 0) 0) (all_zero (drop (i + 1) a)) ∙ ap (λ (b : Bool). z && b) (sym (zero_step a i l)) ∙ t.both;
-      }
-
-  pub tested_all : n ≤ i → z ≡ all_zero a
-  tested_all h =
-      let l : length a ≤ i = omega arith in
-      sym (ap (λ (l : List ℕ). z && all_zero l) (drop_of_length-le a l) ∙ and-true z) ∙ t.both
-
--- processors
-valid_step : (count : ℕ) (l : List Processor) (i : ℕ) → i < length l
-    → valid_processors count i (drop i l) ≡ valid_processor (ltb i count) (get_or l i no_processor) && valid_processors count (i + 1) (drop (i + 1) l)
+valid_behind : (count k : ℕ) (l : List Processor) (i : ℕ) → i < length l
+    → valid_processors count k (take (suc i) l) ≡ (valid_processors count k (take i l) && valid_processor (ltb (k + i) count) (get_or l i no_processor))
 unfolding valid_processors
-valid_step count l i h = rw (add-one, drop-cons l i no_processor)
+valid_behind count k [] i h = absurd (omega arith)
+valid_behind count k (e ∷ l) zero h = rw add-zero (and-true _)
+valid_behind count k (e ∷ l) (suc i) h =
+    let n : suc k + i ≡ k + suc i = omega arith in
+    ap (λ (b : Bool). valid_processor (ltb k count) e && b)
+    (valid_behind count (suc k) l i (omega arith)
+    ∙ ap (λ (p : ℕ). valid_processors count (suc k) (take i l) && valid_processor (ltb p count) (get_or l i no_processor)) n)
+    ∙ sym (and_assoc (valid_processor (ltb k count) e) (valid_processors count (suc k) (take i l)) (valid_processor (ltb (k + suc i) count) (get_or l i no_processor)))
 
-pub valid_next : (count : ℕ) (l : List Processor) (z : Bool) (i : ℕ) → i < length l
-    → z && valid_processor (ltb i count) (get_or l i no_processor) && valid_processors count (i + 1) (drop (i + 1) l) ≡ z && valid_processors count i (drop i l)
-valid_next count l z i h =
-    and_assoc z (valid_processor (ltb i count) (get_or l i no_processor)) (valid_processors count (i + 1) (drop (i + 1) l))
-    ∙ ap (λ (b : Bool). z && b) (sym (valid_step count l i h))
-
-pub valid_last : (count : ℕ) (l : List Processor) (z : Bool) (i : ℕ) → length l ≤ i → z ≡ z && valid_processors count i (drop i l)
-unfolding valid_processors
-valid_last count l z i h = sym (ap (λ (m : List Processor). z && valid_processors count i m) (drop_of_length-le l h) ∙ and-true z)
+pub valid_more : (count : ℕ) (l : List Processor) (i : ℕ) → i < length l
+    → valid_processors count 0 (take (suc i) l) ≡ (valid_processors count 0 (take i l) && valid_processor (ltb i count) (get_or l i no_processor))
+valid_more count l i h = valid_behind count 0 l i h ∙ ap (λ (p : ℕ). valid_processors count 0 (take i l) && valid_processor (ltb p count) (get_or l i no_processor)) (zero-add i)

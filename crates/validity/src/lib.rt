@@ -1,5 +1,5 @@
-// The scope, "Turned back" 1: what is asked of a machine record. It is asked at every call, so nothing here stops early: a loop without an
-// exit is compiled to a few wide compares.
+// Refusal 1: what is asked of a machine record. It is asked at every call, so nothing here stops early: a loop without an exit is compiled to a
+// few wide compares.
 #![tactic(auto)]
 
 ghost use Rattle.std.specs.Prelude.{◌≡◌};
@@ -8,83 +8,68 @@ ghost use Rattle.model.specs.Validity as validity;
 
 use model::{IwKey, Machine, Platform, Processor, Slot};
 
-fn zero_16(a: [u8; 16]) -> bool
-    ensures { result ≡ all_zero a }
+#[tactic(auto, using(crate::proofs::Loops::zero_more))]
+fn is_zero(bytes: &[u8]) -> bool
+    ensures { result ≡ all_zero bytes.now }
 {
-    let mut z = true;
-    for i in 0..16usize {
-        z = z & (a[i] == 0);
+    let mut zero = true;
+    for byte in bytes {
+        zero &= *byte == 0;
     }
-    z
+    zero
 }
 
-fn zero_32(a: [u8; 32]) -> bool
-    ensures { result ≡ all_zero a }
+fn is_zero_key(key: &IwKey) -> bool
+    ensures { result ≡ validity.is_zero_key key.now }
 {
-    let mut z = true;
-    for i in 0..32usize {
-        z = z & (a[i] == 0);
-    }
-    z
+    is_zero(&key.integrity) & is_zero(&key.encryption) & (key.source == 0) & (key.no_backup == 0)
 }
 
-fn zero_key(k: IwKey) -> bool
-    ensures { result ≡ validity.is_zero_key k }
+fn is_valid_key(key: &IwKey) -> bool
+    ensures { result ≡ validity.valid_key key.now }
 {
-    let integrity = k.integrity;
-    let encryption = k.encryption;
-    zero_16(integrity) & zero_32(encryption) & (k.source == 0) & (k.no_backup == 0)
+    (key.source < 2) & (key.no_backup < 2)
 }
 
-// "a stored key source or flag above 1"
-fn valid_key(k: IwKey) -> bool
-    ensures { result ≡ validity.valid_key k }
+// An entry past the count is all zero.
+fn is_valid_processor(below: bool, e: &Processor) -> bool
+    ensures { result ≡ validity.valid_processor below e.now }
 {
-    (k.source < 2) & (k.no_backup < 2)
-}
-
-// "something other than zero in an entry past the count"
-fn valid_processor(below: bool, e: Processor) -> bool
-    ensures { result ≡ validity.valid_processor below e }
-{
-    let k = e.key;
     if below {
-        return valid_key(k) & (e.copy_status < 2);
+        is_valid_key(&e.key) & (e.copy_status < 2)
+    } else {
+        is_zero_key(&e.key) & (e.copy_status == 0)
     }
-    zero_key(k) & (e.copy_status == 0)
 }
 
-#[tactic(auto, using(crate::proofs::Loops::valid_next, crate::proofs::Loops::valid_last))]
-fn valid_processors(count: usize, l: [Processor; 16]) -> bool
-    ensures { result ≡ validity.valid_processors count 0 l }
+#[tactic(auto, using(crate::proofs::Loops::valid_more), unfolding(model::specs::Validity::valid_processors))]
+fn are_valid_processors(count: usize, processors: &[Processor; 16]) -> bool
+    ensures { result ≡ validity.valid_processors count 0 processors.now }
 {
-    let mut z = true;
-    for i in 0..16usize {
-        let e = l[i];
-        z = z & valid_processor(i < count, e);
+    let mut valid = true;
+    for (i, e) in processors.iter().enumerate() {
+        valid &= is_valid_processor(i < count, e);
     }
-    z
+    valid
 }
 
-// "or an absent IWKey"
-fn valid_slot(s: Slot) -> bool
-    ensures { result ≡ validity.valid_slot s }
+// The IWKey of a place that is absent is all zero.
+fn is_valid_slot(slot: &Slot) -> bool
+    ensures { result ≡ validity.valid_slot slot.now }
 {
-    let k = s.key;
-    let flag = s.present < 2;
-    if s.present == 1 {
-        return flag & valid_key(k);
+    let flag = slot.present < 2;
+    if slot.present == 1 {
+        flag & is_valid_key(&slot.key)
+    } else {
+        flag & is_zero_key(&slot.key)
     }
-    flag & zero_key(k)
 }
 
-fn valid_platform(f: Platform) -> bool
-    ensures { result ≡ validity.valid_platform f }
+fn is_valid_platform(f: &Platform) -> bool
+    ensures { result ≡ validity.valid_platform f.now }
 {
-    let backup = f.backup;
-    let store = f.store;
-    valid_slot(backup)
-        & valid_slot(store)
+    is_valid_slot(&f.backup)
+        & is_valid_slot(&f.store)
         & (f.pending < 2)
         & (f.valid < 2)
         & (f.error < 2)
@@ -92,14 +77,12 @@ fn valid_platform(f: Platform) -> bool
 }
 
 #[tactic(auto, unfolding(model::specs::Validity::valid))]
-pub fn valid(m: Machine) -> bool
-    ensures { result ≡ validity.valid m }
+pub fn is_valid(m: &Machine) -> bool
+    ensures { result ≡ validity.valid m.now }
 {
-    let processors = m.processors;
-    let platform = m.platform;
     (1 <= m.count)
         & (m.count <= 16)
         & (m.features < 64)
-        & valid_processors(m.count as usize, processors)
-        & valid_platform(platform)
+        & are_valid_processors(m.count as usize, &m.processors)
+        & is_valid_platform(&m.platform)
 }

@@ -1,58 +1,80 @@
 // An example's bytes: its kind, how many blocks of 16 bytes its last field has (a key one or two, POLYVAL's input up to seven), and its fields.
-// Kinds are those of run.
-use crate::{ciphers, counter_mode, handles, polyvals};
-use aes::word::block_at;
+ghost use Rattle.std.specs.Prelude.{◌+◌, ◌≤◌};
+
 use aes::{Block, Key};
 use fips197::KeySize;
-use line::{bytes, find};
-use std::io;
-use std::io::Write;
+use line::SIZE;
+use parts::part;
 
-// The block at a place of the fields.
-pub fn block(a: [u8; 960], at: u8) -> Block {
-    block_at(&a, 2 + at as usize)
+/// The kinds of examples, in the order of their numbers.
+#[derive(Clone, Copy)]
+pub enum Kind {
+    Expand,
+    Cipher,
+    Sum,
+    Dot,
+    Polyval,
+    Handle,
+    Refused,
+    CounterMode,
 }
 
-// A key of 32 bytes, or of 16 and zeros.
-pub fn key(a: [u8; 960], at: u8) -> Key {
-    let low = block_at(&a, 2 + at as usize);
-    let high = block_at(&a, 18 + at as usize);
-    Key { low, high }
-}
-
-pub fn key_size(a: [u8; 960]) -> KeySize {
-    match a[1] {
-        1 => KeySize::Aes128,
-        _ => KeySize::Aes256,
+impl From<u8> for Kind {
+    fn from(number: u8) -> Self {
+        match number {
+            0 => Kind::Expand,
+            1 => Kind::Cipher,
+            2 => Kind::Sum,
+            3 => Kind::Dot,
+            4 => Kind::Polyval,
+            5 => Kind::Handle,
+            6 => Kind::Refused,
+            _ => Kind::CounterMode,
+        }
     }
 }
 
-fn run(out: &mut impl Write, name: &[u8], a: [u8; 960]) -> io::Result<()> {
-    match a[0] {
-        0 => ciphers::expand(out, name, a),
-        1 => ciphers::cipher(out, name, a),
-        2 => polyvals::sum(out, name, a),
-        3 => polyvals::dot(out, name, a),
-        4 => polyvals::polyval(out, name, a),
-        5 => handles::handle(out, name, a),
-        6 => handles::refused(out, name, a),
-        _ => counter_mode::ctr(out, name, a),
-    }
+/// An example by its bytes.
+#[derive(Clone, Copy)]
+pub struct Example {
+    pub bytes: [u8; SIZE],
 }
 
-// The example of a line.
-fn example(out: &mut impl Write, text: &[u8]) -> io::Result<()> {
-    let n = find(text, 0, b' ');
-    run(out, &text[0..n], bytes(&text[n..]))
-}
-
-// The examples, line by line.
-pub fn all(out: &mut impl Write, text: &[u8]) -> io::Result<()> {
-    let mut at: usize = 0;
-    while at < text.len() {
-        let end = find(text, at, b'\n');
-        example(out, &text[at..end])?;
-        at = end + 1;
+impl Example {
+    pub fn kind(&self) -> Kind {
+        Kind::from(self.bytes[0])
     }
-    Ok(())
+
+    /// How many blocks the last field has.
+    pub fn blocks(&self) -> u8 {
+        self.bytes[1]
+    }
+
+    /// The size of the key that is the last field. No From: the enum is that of `fips197`.
+    pub fn key_size(&self) -> KeySize {
+        match self.blocks() {
+            1 => KeySize::Aes128,
+            _ => KeySize::Aes256,
+        }
+    }
+
+    /// What stands at a place of the fields. A place and no slice, here and below: each caller would cut the fields at the same place.
+    pub fn field<const N: usize>(&self, at: usize) -> [u8; N]
+        requires { 2 + at + N ≤ 960 }
+    {
+        part(&self.bytes, 2 + at)
+    }
+
+    pub fn block(&self, at: usize) -> Block
+        requires { at ≤ 900 }
+    {
+        Block::from(self.field(at))
+    }
+
+    /// A key of 32 bytes, or of 16 and zeros.
+    pub fn key(&self, at: usize) -> Key
+        requires { at ≤ 900 }
+    {
+        Key::from(self.field(at))
+    }
 }

@@ -1,48 +1,60 @@
 // Handles: each wrapped and what came of it unwrapped, and handles that give no key.
-use crate::example::{block, key, key_size};
-use crate::print::{print, print_block, start};
-use aes::Key;
+use crate::case::{Case, HexBlock, HexKey};
 use fips197::KeySize;
-use keywrap::{Handle, Unwrapped};
-use std::io;
+use keywrap::Handle;
+use keywrap::siv::wrap;
 use std::io::Write;
+use std::{fmt, io};
 
-fn print_key(out: &mut impl Write, size: KeySize, key: Key) -> io::Result<()> {
-    print_block(out, key.low)?;
-    match size {
-        KeySize::Aes128 => print(out, b"\n"),
-        KeySize::Aes256 => {
-            print_block(out, key.high)?;
-            print(out, b"\n")
-        }
+// A handle as hexadecimal digits.
+#[derive(Clone, Copy)]
+struct HexHandle(KeySize, Handle);
+
+impl fmt::Display for HexHandle {
+    fn fmt<W: fmt::Write>(&self, f: &mut fmt::Formatter<W>) -> fmt::Result {
+        let HexHandle(size, handle) = *self;
+        let Handle {
+            aad,
+            tag,
+            ciphertext,
+        } = handle;
+        let key = HexKey(size, ciphertext);
+        write!(f, "{}{}{key}", HexBlock(aad), HexBlock(tag))
     }
 }
 
-// Under the example's IWKey, its first two fields.
-fn unwrap(out: &mut impl Write, name: &[u8], a: [u8; 960], handle: Handle) -> io::Result<()> {
-    let size = key_size(a);
-    start(out, b"unwrap ", name)?;
-    let Unwrapped::Key(found) = keywrap_c::unwrap(size, block(a, 0), key(a, 16), handle) else {
-        return print(out, b"none\n");
-    };
-    print_key(out, size, found)
-}
+impl<W: Write> Case<'_, W> {
+    // Under the example's IWKey, its first two fields.
+    fn unwrap_handle(&mut self, handle: &Handle) -> io::Result<()> {
+        let size = self.example.key_size();
+        let integrity = self.example.field(0);
+        let encryption = self.example.field(16);
+        match keywrap_c::unwrap(size, &integrity, &encryption, handle) {
+            Some(key) => self.line("unwrap", HexKey(size, key)),
+            None => self.line("unwrap", "none"),
+        }
+    }
 
-pub fn handle(out: &mut impl Write, name: &[u8], a: [u8; 960]) -> io::Result<()> {
-    let size = key_size(a);
-    let h = keywrap::siv::wrap(size, block(a, 0), key(a, 16), block(a, 48), key(a, 64));
-    start(out, b"wrap ", name)?;
-    print_block(out, h.aad)?;
-    print_block(out, h.tag)?;
-    print_key(out, size, h.ciphertext)?;
-    unwrap(out, name, a, h)
-}
+    pub fn handle(&mut self) -> io::Result<()> {
+        let example = &self.example;
+        let size = example.key_size();
+        let handle = wrap(
+            size,
+            &example.field(0),
+            &example.field(16),
+            example.block(48),
+            &example.key(64),
+        );
+        self.line("wrap", HexHandle(size, handle))?;
+        self.unwrap_handle(&handle)
+    }
 
-pub fn refused(out: &mut impl Write, name: &[u8], a: [u8; 960]) -> io::Result<()> {
-    let h = Handle {
-        aad: block(a, 48),
-        tag: block(a, 64),
-        ciphertext: key(a, 80),
-    };
-    unwrap(out, name, a, h)
+    pub fn refused(&mut self) -> io::Result<()> {
+        let handle = Handle {
+            aad: self.example.block(48),
+            tag: self.example.block(64),
+            ciphertext: self.example.key(80),
+        };
+        self.unwrap_handle(&handle)
+    }
 }

@@ -1,34 +1,33 @@
 // RFC 8452's examples, all by POLYVAL: dot(a, b) is that of one block, and with x^128, the one of dot, for H, that of two blocks is their sum.
-use crate::example::block;
-use crate::print::{print, print_block, start};
+use crate::case::{Case, HexBlock};
 use aes::Block;
 use std::io;
 use std::io::Write;
 
-fn print_polyval(out: &mut impl Write, h: Block, blocks: &[u8]) -> io::Result<()> {
-    print_block(out, polyval::polyval(h, blocks))?;
-    print(out, b"\n")
-}
+// x^127 + x^126 + x^121 + 1
+const ONE: Block = Block {
+    a: 1,
+    b: 0,
+    c: 0,
+    d: 0xC200_0000,
+};
 
-pub fn sum(out: &mut impl Write, name: &[u8], a: [u8; 960]) -> io::Result<()> {
-    // x^127 + x^126 + x^121 + 1
-    let one = Block {
-        a: 1,
-        b: 0,
-        c: 0,
-        d: 0xC200_0000,
-    };
-    start(out, b"sum ", name)?;
-    print_polyval(out, one, &a[2..34])
-}
+impl<W: Write> Case<'_, W> {
+    pub fn sum(&mut self) -> io::Result<()> {
+        let sum = polyval::polyval(ONE, &self.example.field::<32>(0));
+        self.line("sum", HexBlock(sum))
+    }
 
-pub fn dot(out: &mut impl Write, name: &[u8], a: [u8; 960]) -> io::Result<()> {
-    start(out, b"dot ", name)?;
-    print_polyval(out, block(a, 16), &a[2..18])
-}
+    pub fn dot(&mut self) -> io::Result<()> {
+        let product = polyval::polyval(self.example.block(16), &self.example.field::<16>(0));
+        self.line("dot", HexBlock(product))
+    }
 
-pub fn polyval(out: &mut impl Write, name: &[u8], a: [u8; 960]) -> io::Result<()> {
-    let end = 18 + a[1] as usize % 8 * 16;
-    start(out, b"polyval ", name)?;
-    print_polyval(out, block(a, 0), &a[18..end])
+    // H, and up to seven blocks.
+    pub fn polyval(&mut self) -> io::Result<()> {
+        let blocks = self.example.field::<112>(16);
+        let end = 16 * (self.example.blocks() % 8) as usize;
+        let hash = polyval::polyval(self.example.block(0), &blocks[..end]);
+        self.line("polyval", HexBlock(hash))
+    }
 }

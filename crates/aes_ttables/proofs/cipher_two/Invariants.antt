@@ -1,8 +1,6 @@
--- Both states are what the rounds before i make; the measure is the rounds left.
+-- Both states are what the rounds before i make.
 -- Assumes nothing.
-use mathlib.Core.Path.{◌≡◌}
-use mathlib.Core.List.{List}
-use Prim.Native.Nat.{ℕ, ◌-◌, ◌≤◌}
+use Rattle.std.proofs.Common.{◌≡◌, ◌-◌, List, ℕ}
 use Rattle.bits.specs.Words.{le_words}
 use Rattle.aes.specs.Meaning.{bytes_of}
 use Rattle.aes_blocks.specs.TableCipher.{table_rounds}
@@ -11,8 +9,7 @@ use Rattle.aes_ttables.proofs.cipher_two.Given as goal
 
 abbrev pub invariant-loop-i : goal.invariant-loop-i
 invariant-loop-i l =
-    (1 ≤ l.i) × (l.i ≤ l.n) × ((u : List ℕ) → Turned u l.tables → bytes_of l.s ≡ table_rounds u (le_words 4 l.w) (l.i - 1) (bytes_of l.initial.s))
-    × ((u : List ℕ) → Turned u l.tables → bytes_of l.t ≡ table_rounds u (le_words 4 l.w) (l.i - 1) (bytes_of l.initial.t))
-
-abbrev pub decreases-loop-i : goal.decreases-loop-i
-decreases-loop-i l = l.n - l.i
+    record {
+      first : (t : List ℕ) → Turned t l.cipher.four.now → bytes_of l.s ≡ table_rounds t (le_words 4 l.w.words) (l.i - 1) (bytes_of l.initial.s);
+      second : (t : List ℕ) → Turned t l.cipher.four.now → bytes_of l.t ≡ table_rounds t (le_words 4 l.w.words) (l.i - 1) (bytes_of l.initial.t);
+    }

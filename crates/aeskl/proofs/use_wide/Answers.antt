@@ -1,14 +1,10 @@
-use mathlib.Core.Path.{◌∙◌, ap, ap₂}
-use mathlib.Core.Bool.{cond}
-use mathlib.Core.List.{List, ◌++◌}
-use mathlib.Core.Option.{Option}
-use Prim.Native.Nat.{ℕ}
-use lib.ListN.{drop}
+use Rattle.std.proofs.Common.{◌∙◌, ◌/◌, List, ℕ, length, take, ap}
+use Rattle.std.proofs.Math.Option.{Option}
 use Rattle.bits.specs.Blocks.{map_blocks}
 use Rattle.keywrap.specs.Meaning.{handle_bytes}
-use Rattle.model.specs.Cpu.{cpl, with_zf}
+use Rattle.model.specs.Cpu.{cpl}
 use Rattle.model.specs.Instructions.{aes, opened_for}
-use Rattle.aeskl.specs.Meaning.{used_blocks, used_by}
+use Rattle.aeskl.specs.Meaning.{used, used_by}
 use Rattle.aeskl.proofs.Registers.{wide_left}
 use Rattle.aeskl.proofs.use_wide.Goals as goal
 
@@ -16,10 +12,9 @@ pub returns : goal.returns
 returns c =
     let a = c.args in
     let cpu = a.cpu.now in
-    let opened : ℕ → Option (List ℕ) = λ l. opened_for a.k l a.size a.direction (handle_bytes a.size a.h) in
-    let u = used_blocks c.used_blocks-used.result in
+    let f : List ℕ → List ℕ → List ℕ = λ key. map_blocks (aes a.direction a.size key) (length (take 128 cpu) / 16) in
+    let opened : ℕ → Option (List ℕ) = λ l. opened_for a.k.now l a.size a.direction (handle_bytes a.size a.h.now) in
+    let u = used c.use_blocks-zf.result c.use_blocks-zf.new.blocks in
     c.put_zf.ensures
-    ∙ ap (λ (b : List ℕ). with_zf (cond u.zf 1 0) (b ++ drop 128 cpu)) c.put_eight_blocks.ensures
-    ∙ wide_left a.direction a.size cpu c.requires (opened (cpl cpu)) u
-    (c.used_blocks-used.ensures
-    ∙ ap₂ (λ (l : ℕ) (b : List ℕ). used_by (λ key. map_blocks (aes a.direction a.size key) 8) (opened l) b) c.cpl.ensures c.eight_blocks-before.ensures)
+    ∙ wide_left a.direction a.size cpu c.told-cpu (opened (cpl cpu)) u
+    (c.use_blocks-zf.ensures ∙ ap (λ (l : ℕ). used_by f (opened l) (take 128 cpu)) c.cpl-cpl.ensures)

@@ -16,7 +16,7 @@ returns c =
     let size = c.size_of-size.result in
     let given : length handle ≡ handle_length (size_of handle) = c.requires.handle_len in
     let all : length handle ≡ handle_length size = given ∙ sym (ap handle_length c.size_of-size.ensures) in
-    counted_as (record { processor = 0; cpu = a.cpu.now; handle = handle; counter = a.counter.now; buffer = a.buffer.now }) a.k size
-    (handle_bytes size c.handle_at-h.result) (bytes_of c.block_at.result) c.cpl.result c.size_of-size.ensures
-    (c.handle_at-h.ensures ∙ take_all (handle_length size) handle (omega arith)) (c.block_at.ensures ∙ take_all 16 a.counter.now (omega (arith, c.requires.counter_len)))
+    counted_as (record { processor = 0; cpu = a.cpu.now; handle = handle; counter = a.counter.now; buffer = a.buffer.now }) a.k.now size
+    (handle_bytes size c.handle_at-h.result) (bytes_of c.block_at-c.result) c.cpl.result c.size_of-size.ensures
+    (c.handle_at-h.ensures ∙ take_all (handle_length size) handle (omega arith)) (c.block_at-c.ensures ∙ take_all 16 a.counter.now (omega (arith, c.requires.counter_len)))
     c.cpl.ensures c.used_buffer-zf.ensures c.put_zf.ensures

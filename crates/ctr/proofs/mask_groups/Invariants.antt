@@ -1,18 +1,16 @@
--- The first i groups are masked; the measure is the groups left.
+-- The first i groups are masked.
 -- Assumes nothing.
-use Rattle.std.proofs.Common.{◌≡◌, ℕ, ◌-◌, ◌*◌, ◌≤◌, List, length}
-use Rattle.fips197.specs.Sizes.{nr}
-use Rattle.aes.specs.Meaning.{bytes_of, schedule}
-use Rattle.aes_blocks.specs.TableCipher.{table_cipher}
-use Rattle.aes_ttables.specs.Turned.{Turned}
+use Rattle.std.proofs.Common.{◌≡◌, ◌*◌, length}
+use Rattle.aes.specs.Meaning.{bytes_of}
+use Rattle.aes_ttables.specs.Meaning.{cipher_of, MadeOfOne}
 use Rattle.sp800_38a.specs.Counter.{counter_at}
 use Rattle.ctr.proofs.Masking.{Masked}
 use Rattle.ctr.proofs.mask_groups.Given as goal
 
 abbrev pub invariant-loop-i : goal.invariant-loop-i
 invariant-loop-i l =
-    (128 * l.i ≤ length l.initial.bytes) × (length l.bytes ≡ length l.initial.bytes) × (bytes_of l.counter ≡ counter_at (bytes_of l.initial.counter) (8 * l.i))
-    × ((t : List ℕ) → Turned t l.tables → Masked (table_cipher t l.sbox (schedule l.size l.w) (nr l.size)) (bytes_of l.initial.counter) l.initial.bytes (8 * l.i) l.bytes)
-
-abbrev pub decreases-loop-i : goal.decreases-loop-i
-decreases-loop-i l = l.count - l.i
+    record {
+      size : length l.bytes ≡ length l.initial.bytes;
+      counter : bytes_of l.counter ≡ counter_at (bytes_of l.initial.counter) (8 * l.i);
+      masked : MadeOfOne l.cipher → Masked (cipher_of l.cipher.one) (bytes_of l.initial.counter) l.initial.bytes (8 * l.i) l.bytes;
+    }

@@ -1,14 +1,13 @@
 -- Assumes nothing.
-use Rattle.keyring.specs.declared.Answer.TheVariants.{Found, Refused}
-use Rattle.keylocker.proofs.Keyrings.{looked_called}
+use Rattle.keylocker.proofs.Keyrings.{found, unfound_lem}
 use Rattle.keylocker.proofs.keylocker_keyring_lookup.Goals as goal
 
-pub returns-in-Refused : goal.returns-in-Refused
-returns-in-Refused c =
+pub returns-in-Ok : goal.returns-in-Ok
+returns-in-Ok c =
     let a = c.args in
-    looked_called a.keyring.now a.label.now a.kind.now a.handle.now c.lookup-x.result (Refused c.in-Refused.unfound) c.lookup-x.ensures c.in-Refused.is
+    found a.keyring.now a.label.now a.kind.now a.handle.now c.in-Ok.found c.in-Ok.ensures
 
-pub returns-in-Found : goal.returns-in-Found
-returns-in-Found c =
+pub returns-in-Err : goal.returns-in-Err
+returns-in-Err c =
     let a = c.args in
-    looked_called a.keyring.now a.label.now a.kind.now a.handle.now c.lookup-x.result (Found c.in-Found.k) c.lookup-x.ensures c.in-Found.is
+    rw c.refused.ensures (unfound_lem a.keyring.now a.label.now a.kind.now a.handle.now c.in-Err.unfound c.in-Err.ensures)

@@ -1,36 +1,23 @@
-use mathlib.Core.Path.{subst}
-use mathlib.Core.List.{List}
-use Prim.Native.Nat.{ℕ}
+-- Assumes nothing.
+use Rattle.std.specs.Prelude.{Ok, Err}
 use Rattle.model.specs.Calls.{ReadCall}
-use Rattle.step.specs.declared.Answer.{Answer}
-use Rattle.keylocker.specs.Meaning.{read_answered}
-use Rattle.keylocker.specs.Promises.{ReadPromise}
 use Rattle.keylocker.proofs.Finishing.{read_short, read-called}
 use borrow.Author.Rules.{rules}
 use Rattle.keylocker.proofs.keylocker_read.Goals as goal
 
--- the promise, by the answer that the read gave
-abbrev Kept : List ℕ → ReadCall → ℕ → ℕ → Answer → Type 0
-Kept block r old v answer = ReadPromise block r old (read_answered old v answer).value (read_answered old v answer).number
-
-pub returns-then-machine-ne-MACHINE_SIZE : goal.returns-then-machine-ne-MACHINE_SIZE
-returns-then-machine-ne-MACHINE_SIZE c =
+pub returns-in_default : goal.returns-in_default
+returns-in_default c =
     let a = c.args in
-    read_short a.machine.now (record { processor = a.processor; cpl = a.cpl; address = a.address }) a.value.now c.if-machine-ne-MACHINE_SIZE.true
+    rw c.refused.ensures (read_short a.machine.now (record { processor = a.processor; cpl = a.cpl; address = a.address }) a.value.now (search rules))
 
-pub returns-in-Refused : goal.returns-in-Refused
-returns-in-Refused c =
+pub returns-in-Ok : goal.returns-in-Ok
+returns-in-Ok c =
     let a = c.args in
-    let o = c.read-o.result in
     let r : ReadCall = record { processor = a.processor; cpl = a.cpl; address = a.address } in
-    subst (Kept a.machine.now r a.value.now o.value) c.in-Refused.is
-    (read-called a.machine.now r a.value.now _ o (search rules) c.read_machine-m.ensures
-    c.read-o.ensures)
+    read-called a.machine.now r a.value.now _ (Ok c.in-Ok.read) (search rules) (search rules) c.in-Ok.ensures.number c.in-Ok.ensures.value
 
-pub returns-in-Done : goal.returns-in-Done
-returns-in-Done c =
+pub returns-in-Err : goal.returns-in-Err
+returns-in-Err c =
     let a = c.args in
-    let o = c.read-o.result in
     let r : ReadCall = record { processor = a.processor; cpl = a.cpl; address = a.address } in
-    subst (Kept a.machine.now r a.value.now o.value) c.in-Done.is
-    (read-called a.machine.now r a.value.now _ o (search rules) c.read_machine-m.ensures c.read-o.ensures)
+    rw c.refused-in-Err.ensures (read-called a.machine.now r a.value.now _ (Err c.in-Err.unread) (search rules) (search rules) c.in-Err.ensures.number c.in-Err.ensures.value)

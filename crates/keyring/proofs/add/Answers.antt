@@ -1,25 +1,32 @@
-use mathlib.Core.Path.{refl, ap, ◌∙◌}
-use Rattle.keyring.proofs.Calls.{found_at, found_none, add_past_15, tests, adds_as, free_marks}
-use Rattle.keyring_model.specs.Add.{added_new}
-use mathlib.Core.Bool.{true}
-use mathlib.Core.Option.{none, some}
-use Rattle.keyring_model.proofs.Facts.{both}
+-- Assumes nothing.
+use Rattle.std.proofs.Common.{ap, ◌∙◌}
+use Rattle.std.specs.Prelude.{Some, None}
+use Rattle.keyring_model.specs.Lookup.{first_on_chain}
+use Rattle.keyring_model.specs.Add.{added, put_record}
+use Rattle.keyring.proofs.Calls.{replaced, filled}
 use Rattle.keyring.proofs.add.Goals as goal
 
-pub returns-in-At : goal.returns-in-At
-returns-in-At c =
-    let a = c.args in
-    adds_as (refl, c.put_handle.ensures)
-    (add_past_15 a.keyring.now a.label.now a.handle.now (some c.in-At.i)
-    (tests a.keyring.now a.label.now a.handle.now _ _ true c.valid.ensures.tells c.lengths_valid.ensures c.if-not-valid-lengths_valid.false)
-    (found_at c.search.result c.in-At.i _ c.search.ensures.0 c.in-At.is))
+pub returns-in-Some : goal.returns-in-Some
+returns-in-Some c =
+    let b = c.args.keyring.now in
+    let label = c.in_ok-label.ensures.ok in
+    ap (added 0) (c.put_handle.ensures c.args.handle.now c.in_ok-e.ensures.ok.0)
+    ∙ replaced b c.args.label.now _ c.in_ok-ask_valid.ensures.ok.tells label.1 (c.search.ensures.found ∙ ap (first_on_chain b) label.0)
+    c.args.handle.now c.in_ok-e.ensures.ok.1 (Some c.in-Some.i) c.in-Some.is
 
-pub returns-in-Nothing : goal.returns-in-Nothing
-returns-in-Nothing c =
-    let a = c.args in
-    adds_as c.add_new.ensures
-    (ap (added_new a.keyring.now a.label.now a.handle.now)
-    (free_marks a.keyring.now c.valid.new.marks (c.valid.ensures.marks (both _ _ c.if-not-valid-lengths_valid.false).0))
-    ∙ add_past_15 a.keyring.now a.label.now a.handle.now none
-    (tests a.keyring.now a.label.now a.handle.now _ _ true c.valid.ensures.tells c.lengths_valid.ensures c.if-not-valid-lengths_valid.false)
-    (found_none c.search.result _ c.search.ensures.0 c.in-Nothing.is))
+pub returns-in_default-lowest_free : goal.returns-in_default-lowest_free
+returns-in_default-lowest_free c =
+    let b = c.args.keyring.now in
+    let valid = c.in_ok-ask_valid.ensures.ok in
+    let label = c.in_ok-label.ensures.ok in
+    filled b c.args.label.now _ valid.tells label.1 (c.search.ensures.found ∙ ap (first_on_chain b) label.0)
+    c.args.handle.now c.in_ok-e.ensures.ok.1 _ _ None valid.marks c.lowest_free.ensures.found c.in_default.is c.in_default-lowest_free.is
+
+pub returns : goal.returns
+returns c =
+    let b = c.args.keyring.now in
+    let valid = c.in_ok-ask_valid.ensures.ok in
+    let label = c.in_ok-label.ensures.ok in
+    ap (added 0) (c.put_record.ensures c.args.handle.now c.in_ok-e.ensures.ok.0 ∙ ap (λ l. put_record b c.in-Some-lowest_free.i l c.args.handle.now) label.0)
+    ∙ filled b c.args.label.now _ valid.tells label.1 (c.search.ensures.found ∙ ap (first_on_chain b) label.0)
+    c.args.handle.now c.in_ok-e.ensures.ok.1 _ _ (Some c.in-Some-lowest_free.i) valid.marks c.lowest_free.ensures.found c.in_default.is c.in-Some-lowest_free.is

@@ -1,9 +1,9 @@
+-- Assumes nothing.
 use mathlib.Core.Path.{ap, ◌∙◌}
-use Prim.Native.Nat.{ℕ, ◌-◌, ◌<◌}
+use Prim.Native.Nat.{ℕ, ◌-◌}
 use native.Mathlib.Omega.{arith}
 use Rattle.keyring_model.specs.Chains.{chain}
 use Rattle.keyring_model.specs.Lookup.{first_with}
-use Rattle.keyring_model.proofs.Walks.{behind_0}
 use Rattle.keyring_model.proofs.Facts.{Fields, fields, valid_fields}
 use Rattle.keyring.proofs.Turns.{turned}
 use Rattle.keyring.proofs.find.Goals as goal
@@ -13,12 +13,9 @@ chain-preserved c =
     let b = c.args.keyring.now in
     let l = c.args.label.now in
     let o = c.chain in
-    let f : Fields b = fields b (valid_fields b c.requires.0) in
-    let some : 0 < o.i = behind_0 b o.left o.i c.if-i-left.false in (
-      omega arith,
-      omega arith,
-      omega (arith, c.index_at-i.ensures, f.next o.i some (omega arith)),
+    let f : Fields b = fields b (valid_fields b c.requires.0) in (
+      omega (arith, c.index_at-i.ensures, f.next o.i (omega (arith, c.if-i-eq0.false)) (omega arith)),
       ap (λ (i : ℕ). first_with b l (chain (o.left - 1) b i)) c.index_at-i.ensures
-          ∙ turned b l o.left o.i c.if-i-left.false c.loop-j.j c.loop-j-test.true c.if-keyring-at.true
-          ∙ o.invariant.3,
+          ∙ turned b l o.left o.i c.if-i-eq0.false c.if-left-eq0.false c.loop-j.j c.loop-j-test.true c.if-keyring-at.true
+          ∙ o.invariant.1,
     )

@@ -1,17 +1,12 @@
-use native.Mathlib.Omega.{arith}
-use lib.ListN.{take, drop, replicate}
-use Rattle.keyring_model.specs.Records.{handle_room}
-use Rattle.keyring.proofs.Filling.{filling_more, filled}
+use Rattle.std.proofs.Common.{refl, arith}
+use Rattle.keyring.proofs.Written.{copied_more, copied_all}
 use Rattle.keyring.proofs.zero_filled.Goals as goal
 
-pub loop-j-preserved : goal.loop-j-preserved
-loop-j-preserved c =
-    let a = c.args in
-    let l = c.loop-j in
-    filling_more a.keyring.now (replicate handle_room 0) l.handle a.at a.size l.j l.invariant (omega arith)
+pub loop-i-init : goal.loop-i-init
+loop-i-init c = record { within = omega arith; size = refl; same = refl; front = refl }
+
+pub loop-i-preserved : goal.loop-i-preserved
+loop-i-preserved c = copied_more c.loop-i.invariant c.loop-i-test.true
 
 pub returns : goal.returns
-returns c =
-    let a = c.args in
-    let l = c.loop-j in
-    filled (take a.size (drop a.at a.keyring.now)) l.handle a.size l.j (omega arith) (omega arith) l.invariant
+returns c = copied_all c.loop-i.invariant c.loop-i-test.false c.requires

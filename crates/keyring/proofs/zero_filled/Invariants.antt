@@ -1,12 +1,8 @@
+-- The bytes below i are copied.
 -- Assumes nothing.
-use Prim.Native.Nat.{◌-◌}
-use lib.ListN.{take, drop, replicate}
+use Rattle.std.proofs.Common.{length}
 use Rattle.bits.proofs.Runs.{Writing}
-use Rattle.keyring_model.specs.Records.{handle_room}
 use Rattle.keyring.proofs.zero_filled.Given as goal
 
-abbrev pub invariant-loop-j : goal.invariant-loop-j
-invariant-loop-j l = Writing l.size (replicate handle_room 0) 0 (take l.size (drop l.at l.keyring)) l.handle l.j
-
-abbrev pub decreases-loop-j : goal.decreases-loop-j
-decreases-loop-j l = l.size - l.j
+abbrev pub invariant-loop-i : goal.invariant-loop-i
+invariant-loop-i l = Writing (length l.handle) l.initial.filled 0 l.handle l.filled l.i

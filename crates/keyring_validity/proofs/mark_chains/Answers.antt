@@ -9,5 +9,5 @@ returns-then-not-mark_chain c =
     let l = c.loop-k in
     gives_none _ _
     (twice_of_all a.keyring.now a.marks.now 16 (l.k + 1) (omega arith)
-    (next_head a.keyring.now a.marks.now l.k l.marks _ l.invariant.3 c.index_at.ensures
+    (next_head a.keyring.now a.marks.now l.k l.marks _ l.invariant.1 c.index_at.ensures
     (given_none _ _ _ c.mark_chain.ensures.0 c.if-not-mark_chain.true)))

@@ -1,19 +1,14 @@
--- Below i the entries are written.
+-- The entries below i are written.
 -- Assumes nothing.
-use mathlib.Core.Path.{◌≡◌}
-use Prim.Native.Nat.{◌*◌, ◌-◌, ◌≤◌}
-use lib.ListN.{length, take}
-use lib.Seq.{sets}
+use Rattle.std.proofs.Common.{◌≡◌, ◌*◌, length, take}
+use Rattle.std.proofs.lemmas.List.Edits.{sets}
 use Rattle.model.specs.Layout.{entry_size, entries_bytes}
 use Rattle.layout_write.proofs.put_entries.Given as goal
 
 abbrev pub invariant-loop-i : goal.invariant-loop-i
 invariant-loop-i l =
-    (l.i ≤ 16)
-    × (length l.l ≡ 16)
-    × (length l.s ≡ length l.initial.s)
-    × (length (entries_bytes (take l.i l.l)) ≡ l.i * entry_size)
-    × (l.s ≡ sets l.initial.s l.at (entries_bytes (take l.i l.l)))
-
-abbrev pub decreases-loop-i : goal.decreases-loop-i
-decreases-loop-i l = 16 - l.i
+    record {
+      same : length l.s ≡ length l.initial.s;
+      size : length (entries_bytes (take l.i l.processors)) ≡ l.i * entry_size;
+      bytes : l.s ≡ sets l.initial.s l.at (entries_bytes (take l.i l.processors));
+    }

@@ -1,12 +1,8 @@
--- i is at most the length, and the array keeps its own.
+-- What is left of the text still goes where it went at the start.
 -- Assumes nothing.
-use mathlib.Core.Path.{◌≡◌}
-use Prim.Native.Nat.{◌≤◌, ◌-◌}
-use lib.ListN.{length}
+use Rattle.std.proofs.Common.{◌≡◌, ◌≤◌, length, drop}
+use Rattle.line.specs.Line.{bytes_of, filled}
 use Rattle.line.proofs.bytes.Given as goal
 
-abbrev pub invariant-loop-i : goal.invariant-loop-i
-invariant-loop-i l = (l.i ≤ length l.text) × (length l.a ≡ 960)
-
-abbrev pub decreases-loop-i : goal.decreases-loop-i
-decreases-loop-i l = length l.text - l.i
+abbrev pub invariant-loop-c : goal.invariant-loop-c
+invariant-loop-c l = (length l.bytes ≡ 960) × (l.half ≤ 1920) × (filled l.half l.bytes (drop l.c-index l.text) ≡ bytes_of l.text)

@@ -1,13 +1,12 @@
-use native.Mathlib.Omega.{arith}
-use Rattle.aes.specs.Meaning.{bytes_of}
+use Rattle.std.proofs.Common.{◌∙◌, ℕ, ap, arith}
+use Rattle.rfc8452.specs.Field.{add, dot}
 use Rattle.polyval.specs.Meaning.{num, first}
 use Rattle.polyval.proofs.Folding.{block_more}
 use Rattle.polyval.proofs.polyval.Goals as goal
 
-pub loop-i-preserved : goal.loop-i-preserved
-loop-i-preserved c =
-    let bytes = c.args.bytes.now in (
-      omega arith,
-      block_more (first c.multiples-low.result) c.loop-i.i (num c.loop-i.s) (num c.update-v.result) bytes (bytes_of c.block_at.result)
-          c.loop-i.invariant.1 c.block_at.ensures c.update-v.ensures,
-    )
+pub loop-x-preserved : goal.loop-x-preserved
+loop-x-preserved c =
+    let h = first c.new-tables.result.low in
+    let s = num c.loop-x.s in
+    let new = c.dot-s.ensures ∙ ap (λ (a : ℕ). dot a h) (c.add.ensures ∙ ap (add s) c.from-in-loop-x-2.ensures) in
+    block_more h c.loop-x.x-index s (num c.dot-s.result) c.as_chunks.result.0.now _ (omega arith) c.loop-x.invariant c.from-in-loop-x.ensures new

@@ -16,11 +16,9 @@ loop-i-preserved c =
     let k = c.args.k in
     let x = c.args.x in
     let y = get_or m (i - k) 0 in (
-      omega arith,
-      omega arith,
-      length-set m i (bit_xor y x) ∙ c.loop-i.invariant.2,
+      length-set m i (bit_xor y x) ∙ c.loop-i.invariant.0,
       λ q e p h t.
-          let rule = c.loop-i.invariant.3 q e p h t in
-          filled (λ j z. le_bytes 4 z ≡ part q j 0) m i (bit_xor y x) (omega (arith, c.loop-i.invariant.2)) rule
-          (sum_part q e x y p (omega arith) c.loop-i.invariant.0 (omega arith) h (rule (i - k) (omega arith))),
+          let rule = c.loop-i.invariant.1 q e p h t in
+          filled (λ j z. le_bytes 4 z ≡ part q j 0) m i (bit_xor y x) (omega (arith, c.loop-i.invariant.0)) rule
+          (sum_part q e x y p (omega arith) c.loop-i.auto.i (omega arith) h (rule (i - k) (omega arith))),
     )

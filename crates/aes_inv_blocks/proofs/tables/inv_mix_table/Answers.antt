@@ -12,9 +12,8 @@ loop-i-preserved c =
     let t = c.args.inverse.now in
     let r = c.loop-i.mixed in
     let i = c.loop-i.i in
-    let x = c.product-x.result in (
-      omega arith,
-      length-set r i x ∙ c.loop-i.invariant.1,
-      filled (λ k y. le_bytes 4 y ≡ part inv_mix_row (get_or t k 0) 0) r i x (omega (arith, c.loop-i.invariant.1)) c.loop-i.invariant.2
-          (c.product-x.ensures inv_mix_row c.inv_products.ensures),
+    let x = get_or c.inv_products.new.products (get_or t i 0) 0 in (
+      length-set r i x ∙ c.loop-i.invariant.0,
+      filled (λ k y. le_bytes 4 y ≡ part inv_mix_row (get_or t k 0) 0) r i x (omega (arith, c.loop-i.invariant.0)) c.loop-i.invariant.1
+          (c.inv_products.ensures (get_or t i 0) (c.fits-inverse i)),
     )

@@ -1,6 +1,5 @@
--- Assumes nothing.
+use Rattle.std.proofs.Common.{rules}
 use Rattle.keywrap.proofs.Words.{counter_block_lem}
-use borrow.Author.Rules.{rules}
 use Rattle.keywrap.proofs.siv.counter_block.Goals as goal
 
 pub returns : goal.returns
