@@ -1,24 +1,12 @@
-// A schedule that is not expanded yet, and the round keys of one that is.
-ghost use Rattle.std.specs.Prelude.{◌≡◌, ◌≤◌, replicate};
+// The round keys of a schedule.
+ghost use Rattle.std.specs.Prelude.{◌≡◌, ◌≤◌};
 ghost use Rattle.bits.specs.Words.{le_words};
 ghost use Rattle.fips197.specs.KeyExpansion.{round_key};
 ghost use Rattle.aes.specs.Meaning.{bytes_of};
 
 use crate::{Block, Schedule};
-use fips197::KeySize;
 
 impl Schedule {
-    /// Room for the schedule of a key of this size: all words are zero.
-    pub fn new(size: KeySize) -> Self
-        ensures size { result.size ≡ size }
-        ensures words { result.words ≡ replicate 60 0 }
-    {
-        Schedule {
-            words: [0; 60],
-            size,
-        }
-    }
-
     /// The key that round n adds; round 0 is the sum before all rounds.
     #[tactic(auto, using(bits::proofs::Lists::four, crate::proofs::KeySchedule::word_words), unfolding(fips197::specs::KeyExpansion::round_key))]
     pub fn round_key(&self, n: usize) -> Block

@@ -34,9 +34,7 @@ pub fn key_expansion(size: KeySize, key: &Key) -> Schedule
     ensures size { result.size ≡ size }
     ensures words { le_words 4 result.words ≡ stored_schedule size (key_bytes size key.now) }
 {
-    let mut w = Schedule::new(size);
-    expand(&Sbox::new(), key, &mut w);
-    w
+    expand(&Sbox::new(), size, key)
 }
 
 pub fn encrypt_block(w: &Schedule, b: Block) -> Block
@@ -79,8 +77,7 @@ pub fn ctr_mask(wide: bool, size: KeySize, key: &Key, c: Block, bytes: &mut [u8]
     let sbox = Sbox::new();
     let mut room = [0; 256];
     let tables = AesTables::new(&sbox, &mut room);
-    let mut w = Schedule::new(size);
-    expand(&sbox, key, &mut w);
+    let w = expand(&sbox, size, key);
     mask(wide, &tables.plain(), &w, c, bytes);
 }
 

@@ -84,11 +84,11 @@ fn fill_by(sbox: &Sbox, size: KeySize, w: &mut [u32; 60])
 }
 
 // The words of the key, at the front, and zeros.
-fn put_front(key: &Key, w: &mut [u32; 60])
-    ensures { (le_words 4 (take 8 w.new) ≡ bytes_of key.now.low ++ bytes_of key.now.high) × (drop 8 w.new ≡ replicate 52 0) }
+fn key_front(key: &Key) -> [u32; 60]
+    ensures { (le_words 4 (take 8 result) ≡ bytes_of key.now.low ++ bytes_of key.now.high) × (drop 8 result ≡ replicate 52 0) }
 {
     // A store for each column, by its name.
-    *w = [0; 60];
+    let mut w = [0u32; 60];
     w[0] = key.low.a;
     w[1] = key.low.b;
     w[2] = key.low.c;
@@ -97,14 +97,16 @@ fn put_front(key: &Key, w: &mut [u32; 60])
     w[5] = key.high.b;
     w[6] = key.high.c;
     w[7] = key.high.d;
+    w
 }
 
-/// The key schedule, for the size that stands in it; the words that AES-128 does not need are zero. In place, since a returned array is copied.
+/// The key schedule; the words that AES-128 does not need are zero. By value, though it is copied: filled in the place of a lent one it took longer.
 #[tactic(auto, using(crate::proofs::Expansion::stored))]
-pub fn expand(sbox: &Sbox, key: &Key, w: &mut Schedule)
-    ensures size { w.new.size ≡ w.old.size }
-    ensures words { le_words 4 w.new.words ≡ stored_schedule w.old.size (key_bytes w.old.size key.now) }
+pub fn expand(sbox: &Sbox, size: KeySize, key: &Key) -> Schedule
+    ensures size { result.size ≡ size }
+    ensures words { le_words 4 result.words ≡ stored_schedule size (key_bytes size key.now) }
 {
-    put_front(key, &mut w.words);
-    fill_by(sbox, w.size, &mut w.words);
+    let mut words = key_front(key);
+    fill_by(sbox, size, &mut words);
+    Schedule { words, size }
 }

@@ -19,7 +19,7 @@ fn turn_tables(tables: &mut [u32; 1024])
     }
 }
 
-// By index: the array stored as a whole is a call of memmove, which the library asks of nobody.
+// Word by word: the array stored as a whole is a call of memmove, which the library asks of nobody.
 #[tactic(auto, using(bits::proofs::Lists::filled))]
 fn put_table(table: &[u32; 256], tables: &mut [u32; 1024])
     ensures { (k : ℕ) → k < 256 → get_or tables.new k 0 ≡ get_or table.now k 0 }

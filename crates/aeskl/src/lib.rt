@@ -90,8 +90,7 @@ fn use_blocks(
         // ZF is set, and the blocks go back as they came.
         return true;
     };
-    let mut w = Schedule::new(size);
-    expand(&sbox, &key, &mut w);
+    let w = expand(&sbox, size, &key);
     // An arm for each direction: decryption makes a table of its own, in the room of the cipher's.
     match direction {
         Direction::Encrypt => encrypt_blocks(&tables, &w, blocks),

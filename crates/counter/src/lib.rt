@@ -16,8 +16,8 @@ ghost use Rattle.model.specs.Refusals.{first, bad_size};
 ghost use Rattle.refusal.specs.Numbers.{answer_of};
 ghost use Rattle.counter.specs.Meaning.{counter_tests, left, left_of};
 
+use aes::Block;
 use aes::word::block_at;
-use aes::{Block, Schedule};
 use aes_blocks::AesTables;
 use aes_key::expand;
 use aeskl::illegal;
@@ -66,7 +66,7 @@ fn ask(
 // ---- the buffer, by one IWKey
 
 // ZF after it. It begins as `aeskl::use_blocks`, which lends the room of the table on: one function with a closure would have to lend both at once. An
-// illegal handle is not unwrapped, and no table is made for it. Inlined, it would make a call's stack larger than the header says.
+// illegal handle is not unwrapped, and no table is made for it. Inlined, its tables would stand in the frame of a refused call.
 #[inline(never)]
 fn used_buffer(
     wide: bool,
@@ -90,8 +90,7 @@ fn used_buffer(
         // ZF is set, and the buffer goes back as it came.
         return true;
     };
-    let mut w = Schedule::new(size);
-    expand(&sbox, &key, &mut w);
+    let w = expand(&sbox, size, &key);
     mask(wide, &tables.plain(), &w, c, buffer);
     false
 }

@@ -65,7 +65,8 @@ fn advance(cpu: &mut Cpu, bytes: u64)
 
 // ---- the instructions
 
-// The four forms on one block. Two functions, since the definition of each form is its own: `forms::single`, `forms::wide`.
+// The four forms on one block. Two functions, since the definition of each form is its own: `forms::single`, `forms::wide`. That the handle lies inside is asked
+// of each: memory and place are what they are handed on.
 fn single(u: &Use, at: u64, memory: &[u8], k: &IwKey, cpu: &mut Cpu)
     requires { at + handle_length u.now.size ≤ length memory.now }
     ensures { (bytes : ℕ) → at ≡ (forms.handle_address cpu.old bytes u.now.handle).linear → cpu.new ≡ instructions.used memory.now bytes (forms.single u.now) k.now cpu.old }

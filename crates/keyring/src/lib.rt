@@ -62,7 +62,7 @@ fn zero_filled(handle: &[u8]) -> [u8; 64]
     ensures { result ≡ records.zero_filled handle.now }
 {
     let mut filled = [0; HANDLE_256];
-    // By index: `copy_from_slice` is a call of memmove, which the library asks of nobody.
+    // Byte by byte: `copy_from_slice` is a call of memmove, which the library asks of nobody.
     for (i, b) in handle.iter().enumerate() {
         filled[i] = *b;
     }

@@ -108,8 +108,7 @@ pub fn wrap(
     let sbox = Sbox::new();
     let mut room = [0; 256];
     let tables = AesTables::new(&sbox, &mut room);
-    let mut schedule = Schedule::new(KeySize::Aes256);
-    expand(&sbox, &Key::from(*encryption), &mut schedule);
+    let schedule = expand(&sbox, KeySize::Aes256, &Key::from(*encryption));
     let keys = Keys {
         tables: &tables,
         integrity,
@@ -135,8 +134,7 @@ pub fn unwrap(
 ) -> Option<Key>
     ensures { opened result ≡ padded_key (unwrap_key integrity.now encryption.now (handle_bytes size handle.now)) }
 {
-    let mut schedule = Schedule::new(KeySize::Aes256);
-    expand(tables.sbox, &Key::from(*encryption), &mut schedule);
+    let schedule = expand(tables.sbox, KeySize::Aes256, &Key::from(*encryption));
     let keys = Keys {
         tables,
         integrity,

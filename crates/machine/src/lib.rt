@@ -42,6 +42,7 @@ const ZERO_PLATFORM: Platform = Platform {
     consumed: 0,
 };
 
+// Count and features come one by one, as `power_on` has them of C.
 fn fresh(count: u8, features: u8) -> Machine
     ensures { result ≡ execution.fresh count features }
 {

@@ -12,7 +12,7 @@ use std::io::{BufWriter, Write};
 // How many characters are read at most.
 const ROOM: usize = 196_608;
 
-// All is read before the first answer, into fixed memory: a Vec could run out where nothing could before.
+// All is read before the first answer, into fixed memory: a Vec could run out of memory, and an array cannot.
 fn main(rt: HostRuntime) -> io::Result<()> {
     let mut input = [0u8; ROOM];
     let n = read_full(&mut rt.stdin(), &mut input)?;

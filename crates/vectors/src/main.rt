@@ -30,7 +30,7 @@ fn run<W: Write>(case: &mut Case<'_, W>) -> io::Result<()> {
     }
 }
 
-// All is read before the first answer, into fixed memory: a Vec could run out where nothing could before.
+// All is read before the first answer, into fixed memory: a Vec could run out of memory, and an array cannot.
 fn main(rt: HostRuntime) -> io::Result<()> {
     let mut input = [0u8; ROOM];
     let n = read_full(&mut rt.stdin(), &mut input)?;

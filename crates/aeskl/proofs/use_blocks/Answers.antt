@@ -26,7 +26,7 @@ returns-in-Encrypt c =
     let key = c.in-Some.key in
     let f : List ℕ → List ℕ → List ℕ = λ key. map_blocks (aes a.direction a.size key) n in
     key_used a.k.now a.cpl a.size a.direction a.h.now f a.blocks.now key (sym c.illegal.ensures ∙ c.if-illegal.false) c.in-Some.is c.unwrap.ensures
-    (c.encrypt_blocks.ensures ∙ enciphered a.size key c.expand.new.w (c.expand.ensures.size ∙ c.new-w.ensures.size) (rw c.new-w.ensures.size at c.expand.ensures.words) n a.blocks.now
+    (c.encrypt_blocks.ensures ∙ enciphered a.size key c.expand-w.result c.expand-w.ensures.size c.expand-w.ensures.words n a.blocks.now
     ∙ ap (λ (d : Direction). map_blocks (aes d a.size (key_bytes a.size key)) n a.blocks.now) (sym c.in-Encrypt.is))
 
 pub returns-in-Decrypt : goal.returns-in-Decrypt
@@ -36,5 +36,5 @@ returns-in-Decrypt c =
     let key = c.in-Some.key in
     let f : List ℕ → List ℕ → List ℕ = λ key. map_blocks (aes a.direction a.size key) n in
     key_used a.k.now a.cpl a.size a.direction a.h.now f a.blocks.now key (sym c.illegal.ensures ∙ c.if-illegal.false) c.in-Some.is c.unwrap.ensures
-    (c.decipher.ensures ∙ deciphered a.size key c.expand.new.w (c.expand.ensures.size ∙ c.new-w.ensures.size) (rw c.new-w.ensures.size at c.expand.ensures.words) n a.blocks.now
+    (c.decipher.ensures ∙ deciphered a.size key c.expand-w.result c.expand-w.ensures.size c.expand-w.ensures.words n a.blocks.now
     ∙ ap (λ (d : Direction). map_blocks (aes d a.size (key_bytes a.size key)) n a.blocks.now) (sym c.in-Decrypt.is))

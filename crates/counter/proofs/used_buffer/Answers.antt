@@ -25,5 +25,5 @@ returns c =
     key_used a.k.now a.cpl a.size Encrypt a.h.now (λ key. ctr (aes Encrypt a.size key) (bytes_of a.c)) a.buffer.now c.in-Some.key
     (sym c.illegal.ensures ∙ c.if-illegal.false) c.in-Some.is c.unwrap.ensures
     (c.mask.ensures
-    ∙ keyed c.plain.ensures.mixed c.plain.ensures.sbox c.new-tables.result.mixed_is c.new-tables.result.sbox.now.is_sbox (c.expand.ensures.size ∙ c.new-w.ensures.size)
-    c.in-Some.key _ (rw c.new-w.ensures.size at c.expand.ensures.words) (bytes_of a.c) a.buffer.now)
+    ∙ keyed c.plain.ensures.mixed c.plain.ensures.sbox c.new-tables.result.mixed_is c.new-tables.result.sbox.now.is_sbox c.expand-w.ensures.size
+    c.in-Some.key _ c.expand-w.ensures.words (bytes_of a.c) a.buffer.now)

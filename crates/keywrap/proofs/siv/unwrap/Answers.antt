@@ -9,7 +9,7 @@ use Rattle.keywrap.proofs.siv.unwrap.Goals as goal
 
 pub invariant_of-keys : goal.invariant_of-keys
 invariant_of-keys c =
-    record { expanded = expanded c.expand.new.w c.from.result c.args.encryption.now (c.expand.ensures.size ∙ c.new-schedule.ensures.size) (rw c.new-schedule.ensures.size at c.expand.ensures.words) c.from.ensures }
+    record { expanded = expanded c.expand-schedule.result c.from.result c.args.encryption.now c.expand-schedule.ensures.size c.expand-schedule.ensures.words c.from.ensures }
 
 pub returns : goal.returns
 returns c =
